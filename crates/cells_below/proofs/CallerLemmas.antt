@@ -4,4 +4,4 @@ pub use Rattle.cells_below.proofs.Ranges.{each_of_all, list_all_each, list_all_r
 pub use Rattle.cells_below.proofs.Cells.{cell_below, cells_below, more_bits, none_kept, same_cell}
 pub use Rattle.cells_below.proofs.Between.{between, bounds_are, closed}
 pub use Rattle.cells_below.proofs.BitByBit.{cells_more, kept_same, one_more}
-pub use Rattle.cells_below.proofs.Leads.{leads_some, upper_wide}
+pub use Rattle.cells_below.proofs.Leads.{leads_some}

@@ -1,21 +1,16 @@
 -- Whether a search leads to a node.
-use Rattle.std.proofs.Common.{◌≡◌, ℕ, nat_eq, eqb-true, eq-eqb, Option, Some, None, length, refl, sym, ap, ◌∙◌}
+use Rattle.std.proofs.Common.{◌≡◌, ℕ, nat_eq, eqb-true, eq-eqb, Option, Some, None, refl, sym, ap, ◌∙◌}
 use Rattle.std.specs.Cmp.{both_ways}
 use Rattle.std.specs.Option.{option_map, option_eq}
 use Rattle.std.specs.Ordering.{nat_cmp, eq_by_cmp}
 use Rattle.cube_defs.specs.Cell.{Cell, cell_eq}
 use Rattle.cube_defs.specs.Tree.{Tree, cell_at}
 use Rattle.cube_laws.proofs.CallerLemmas.{cell_eq-exact, cell_eq-same, code_equality}
-use Rattle.tree_laws.proofs.CallerLemmas.{some_same, there}
-use Rattle.tree_search.specs.Found.{IsTreeOf, IsTree, IsNumberOfCell, TreeRows, closure_in}
-use Rattle.tree_search.proofs.CallerLemmas.{cell_of, wide}
+use Rattle.tree_laws.proofs.CallerLemmas.{some_same}
+use Rattle.tree_search.specs.Found.{IsTreeOf, IsNumberOfCell, TreeRows, closure_in}
 use Rattle.cells_below.specs.Closed.{has_closure_in}
 
 module _ (dims : ℕ) (tree : Tree ℕ) (k : ℕ) (u : Cell ℕ) (at : cell_at tree k ≡ Some u) where
-  -- the node's cell has a value or Any in each dimension
-  pub upper_wide : IsTree dims tree → length u ≡ dims
-  upper_wide t = ap length (sym (cell_of tree k u at)) ∙ wide dims tree t.0 t.1 k (there tree k u at)
-
   module _ (source : TreeRows) (h : IsTreeOf dims tree source) (c : Cell ℕ) where
     -- two nodes are the same where their cells are
     pub leads_some : (m : ℕ) → IsNumberOfCell tree (Some m) (closure_in source c)

@@ -4,7 +4,6 @@ ghost use Rattle.tree_search.specs.Found.{IsTreeOf, TreeRows};
 ghost use Rattle.cells_below.specs.Closed.{AreNeeded, IsMarkedBefore, bounds, closes, has_closure_in};
 ghost use Rattle.cells_below.specs.Marks.{is_marked};
 ghost use Rattle.cells_below.specs.Numbers.{cell_of_number};
-ghost use Rattle.cells_below.specs.Upper.{IsCellOfNode, IsUpperBound};
 
 use crate::marks::Marks;
 use crate::numbers::write_cell;
@@ -14,19 +13,16 @@ use crate::without::lacks_needed_bit;
 use cell_core::{Cell, Steps};
 use qc_arena::Nodes;
 use std::sync::ledger::Ledger;
-use tree_search::find;
 
 // Whether the cell's closure is the upper bound.
 fn leads_to<T: Nodes, L: Ledger>(upper: &UpperBound<T>, cell: &Cell, steps: &mut Steps<L>) -> bool
-    requires upper { IsCellOfNode (T.width upper.now.tree.now) (T.tree upper.now.tree.now)
-        upper.now.node.0 upper.now.cell.now upper.now.values }
-    requires dims { length cell.now ≡ T.width upper.now.tree.now }
+    requires { length cell.now ≡ length upper.now.cell.now }
     ensures value { (source : TreeRows) →
-        IsTreeOf (T.width upper.now.tree.now) (T.tree upper.now.tree.now) source →
+        IsTreeOf upper.now.tree.now.width upper.now.tree.now.tree source →
         result ≡ has_closure_in source upper.now.cell.now cell.now }
     ensures steps { steps.new ≤ steps.old + (2 * length cell.now + 2) }
 {
-    match find(upper.tree, cell, steps) {
+    match upper.tree.find(cell, steps) {
         Some(found) => found.0 == upper.node.0,
         None => false,
     }
@@ -39,11 +35,9 @@ pub(crate) fn closes_at<T: Nodes, L: Ledger>(
     cell: &mut Cell,
     steps: &mut Steps<L>,
 ) -> bool
-    requires upper { IsCellOfNode (T.width upper.now.tree.now) (T.tree upper.now.tree.now)
-        upper.now.node.0 upper.now.cell.now upper.now.values }
-    requires dims { length cell.old ≡ length upper.now.cell.now }
+    requires { length cell.old ≡ length upper.now.cell.now }
     ensures value { (source : TreeRows) →
-        IsTreeOf (T.width upper.now.tree.now) (T.tree upper.now.tree.now) source →
+        IsTreeOf upper.now.tree.now.width upper.now.tree.now.tree source →
         result ≡ closes source upper.now.cell.now m }
     ensures cell { cell.new ≡ cell_of_number upper.now.cell.now m }
     ensures dims { length cell.new ≡ length upper.now.cell.now }
@@ -61,12 +55,10 @@ fn closes_for_number<T: Nodes, L: Ledger>(
     cell: &mut Cell,
     steps: &mut Steps<L>,
 ) -> bool
-    requires upper { IsUpperBound (T.width upper.now.tree.now) (T.tree upper.now.tree.now)
-        upper.now.node.0 upper.now.cell.now upper.now.values }
     requires dims { length cell.old ≡ length upper.now.cell.now }
     requires number { m < 2 ^ upper.now.values }
     ensures value { (source : TreeRows) →
-        IsTreeOf (T.width upper.now.tree.now) (T.tree upper.now.tree.now) source →
+        IsTreeOf upper.now.tree.now.width upper.now.tree.now.tree source →
         result ≡ closes source upper.now.cell.now m }
     ensures cell { cell.new ≡ cell_of_number upper.now.cell.now m }
     ensures dims { length cell.new ≡ length upper.now.cell.now }
@@ -91,26 +83,24 @@ pub fn bounds_at<T: Nodes, L: Ledger>(
     cell: &mut Cell,
     steps: &mut Steps<L>,
 ) -> bool
-    requires upper { IsUpperBound (T.width upper.now.tree.now) (T.tree upper.now.tree.now)
-        upper.now.node.0 upper.now.cell.now upper.now.values }
     requires needed { (source : TreeRows) →
-        IsTreeOf (T.width upper.now.tree.now) (T.tree upper.now.tree.now) source →
+        IsTreeOf upper.now.tree.now.width upper.now.tree.now.tree source →
         AreNeeded source upper.now.cell.now needed }
     requires dims { length cell.old ≡ length upper.now.cell.now }
     requires number { m < 2 ^ upper.now.values }
     requires room { 2 ^ upper.now.values ≤ length marks.old }
     requires below { (source : TreeRows) →
-        IsTreeOf (T.width upper.now.tree.now) (T.tree upper.now.tree.now) source →
+        IsTreeOf upper.now.tree.now.width upper.now.tree.now.tree source →
         IsMarkedBefore source upper.now.cell.now marks.old m }
     requires above { (j : ℕ) → m ≤ j → is_marked marks.old j ≡ false }
     ensures value { (source : TreeRows) →
-        IsTreeOf (T.width upper.now.tree.now) (T.tree upper.now.tree.now) source →
+        IsTreeOf upper.now.tree.now.width upper.now.tree.now.tree source →
         result ≡ bounds source upper.now.cell.now m }
     ensures cell { IsTrue result → cell.new ≡ cell_of_number upper.now.cell.now m }
     ensures dims { length cell.new ≡ length upper.now.cell.now }
     ensures room { length marks.new ≡ length marks.old }
     ensures below { (source : TreeRows) →
-        IsTreeOf (T.width upper.now.tree.now) (T.tree upper.now.tree.now) source →
+        IsTreeOf upper.now.tree.now.width upper.now.tree.now.tree source →
         IsMarkedBefore source upper.now.cell.now marks.new (m + 1) }
     ensures above { (j : ℕ) → m + 1 ≤ j → is_marked marks.new j ≡ false }
     ensures steps { steps.new ≤ steps.old + (2 * length upper.now.cell.now + 2) }

@@ -3,7 +3,6 @@ ghost use Rattle.std.specs.Prelude.{if◌then◌else◌, length, true, ◌*◌, 
 ghost use Rattle.tree_search.specs.Found.{IsTreeOf, TreeRows};
 ghost use Rattle.cells_below.specs.Closed.{AreNeeded};
 ghost use Rattle.cells_below.specs.Numbers.{Lacks, turned};
-ghost use Rattle.cells_below.specs.Upper.{IsCellOfNode};
 
 use crate::closed::closes_at;
 use crate::numbers::{flip_bit, is_bit_set};
@@ -29,11 +28,9 @@ pub fn needed<T: Nodes, L: Ledger>(
     cell: &mut Cell,
     steps: &mut Steps<L>,
 ) -> u32
-    requires upper { IsCellOfNode (T.width upper.now.tree.now) (T.tree upper.now.tree.now)
-        upper.now.node.0 upper.now.cell.now upper.now.values }
-    requires dims { length cell.old ≡ length upper.now.cell.now }
+    requires { length cell.old ≡ length upper.now.cell.now }
     ensures value { (source : TreeRows) →
-        IsTreeOf (T.width upper.now.tree.now) (T.tree upper.now.tree.now) source →
+        IsTreeOf upper.now.tree.now.width upper.now.tree.now.tree source →
         AreNeeded source upper.now.cell.now result }
     ensures dims { length cell.new ≡ length upper.now.cell.now }
     ensures steps { steps.new ≤ steps.old + upper.now.values * (2 * length upper.now.cell.now + 2) }

@@ -6,13 +6,14 @@ ghost use Rattle.cube_defs.specs.Answers.{class_of};
 ghost use Rattle.tree_search.specs.Found.{IsTreeOf, IsTree, TreeRows};
 
 use crate::Memory;
-use crate::bounds::bounds_of_cell;
+use crate::bounds::bounds_of;
 use aggregates::Agg;
 use cell_core::{Cell, Cells, Steps};
+use cells_below::{UpperBound, count_values};
 use qc_arena::Nodes;
 use std::alloc::Global;
 use std::sync::ledger::Ledger;
-use tree_search::{find, upper_into};
+use tree_search::CanonicalTree;
 
 /// A class of the rows, in codes.
 #[derive(Drop)]
@@ -42,15 +43,22 @@ pub fn find_class<T: Nodes, L: Ledger>(
         ≡ class_of nat_cmp source.measures source.rows cell.now) }
     ensures steps { steps.new ≤ steps.old + 7 * (T.width tree.now + 1) * 2 ^ T.width tree.now }
 {
-    let Some(node) = find(tree, cell, steps) else {
+    let tree = CanonicalTree::of(tree);
+    let Some(node) = tree.find(cell, steps) else {
         return Ok(None);
     };
-    let mut upper = Cell::any(alloc, tree.dims());
-    upper_into(tree, node, &mut upper, steps);
+    let mut u = Cell::any(alloc, tree.dims());
+    tree.upper_into(node, &mut u, steps);
     let total = tree.class(node, steps).unwrap();
-    let lowers = bounds_of_cell(alloc, tree, node, &upper, steps)?;
+    let upper = UpperBound {
+        tree: &tree,
+        node,
+        cell: &u,
+        values: count_values(&u),
+    };
+    let lowers = bounds_of(alloc, &upper, steps)?;
     Ok(Some(ClassHit {
-        upper,
+        upper: u,
         agg: total,
         lowers,
     }))

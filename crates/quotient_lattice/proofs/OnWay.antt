@@ -14,8 +14,8 @@ use Rattle.cube_laws.proofs.CallerLemmas.{nat_eq-turned}
 use Rattle.qc_arena.specs.RecordReaders.{record_at}
 use Rattle.tree_laws.specs.Walk.{last_label}
 use Rattle.tree_laws.proofs.CallerLemmas.{label_none, label_some, parent_is, depth-cell_prefix-le, some_same, there}
-use Rattle.tree_search.specs.Found.{IsTreeOf, IsNumberOfCell, TreeRows, closure_in}
-use Rattle.tree_search.proofs.CallerLemmas.{cell_of, cell_there, there_is}
+use Rattle.tree_search.specs.Found.{IsTreeOf, IsTree, IsNumberOfCell, TreeRows, closure_in}
+use Rattle.tree_search.proofs.CallerLemmas.{cell_of, cell_there, there_is, wide}
 use Rattle.cells_below.specs.Closed.{has_closure_in}
 use Rattle.cells_below.proofs.CallerLemmas.{leads_some}
 use Rattle.quotient_lattice.specs.Candidates.{ancestor_count, edges_on_way, edges_up, label_leads, lead_count, leads_by, leads_to}
@@ -27,6 +27,11 @@ pub put_back : (c : Cell ℕ) (i v : ℕ) → slice_get c i ≡ Some None → sl
 put_back [] i v e = refl
 put_back (f ∷ c) zero v e = ap (λ x. x ∷ c) (sym (some_same e))
 put_back (f ∷ c) (suc i) v e = ap (λ x. f ∷ x) (put_back c i v e)
+
+-- a node's cell has a value or Any in each dimension
+pub upper_wide : (dims : ℕ) (tree : Tree ℕ) (k : ℕ) (u : Cell ℕ) → cell_at tree k ≡ Some u → IsTree dims tree
+    → length u ≡ dims
+upper_wide dims tree k u at t = ap length (sym (cell_of tree k u at)) ∙ wide dims tree t.0 t.1 k (there tree k u at)
 
 abbrev pub one_if : Bool → ℕ
 one_if b = cond b 1 0

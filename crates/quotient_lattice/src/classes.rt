@@ -12,23 +12,22 @@ use lower_bounds::ClassHit;
 use qc_arena::Nodes;
 use std::alloc::{AllocError, Global};
 use std::sync::ledger::Ledger;
-use tree_search::upper_into;
+use tree_search::CanonicalTree;
 
 // The class of a node, without its lower bounds.
 fn class_alone<T: Nodes, L: Ledger>(
     alloc: Global,
-    tree: &T,
+    tree: &CanonicalTree<T>,
     node: NodeNo,
     steps: &mut Steps<L>,
 ) -> ClassHit
-    requires tree { IsTree (T.width tree.now) (T.tree tree.now) }
-    requires class { IsSome (record_at (T.tree tree.now) node.0).class }
-    ensures { (source : TreeRows) → IsTreeOf (T.width tree.now) (T.tree tree.now) source →
+    requires { IsSome (record_at tree.now.tree node.0).class }
+    ensures { (source : TreeRows) → IsTreeOf tree.now.width tree.now.tree source →
         hit_in result ≡ lattice.class_alone nat_cmp source.measures source.rows
-        (record_at (T.tree tree.now) node.0).cell }
+        (record_at tree.now.tree node.0).cell }
 {
     let mut upper = Cell::any(alloc, tree.dims());
-    upper_into(tree, node, &mut upper, steps);
+    tree.upper_into(node, &mut upper, steps);
     let total = tree.class(node, steps).unwrap();
     ClassHit {
         upper,
@@ -51,12 +50,13 @@ pub fn classes_alone<T: Nodes, L: Ledger>(
         ≡ map (λ node. lattice.class_alone nat_cmp source.measures source.rows
         (record_at (T.tree tree.now) node.0).cell) nodes.now) }
 {
+    let tree = CanonicalTree::of(tree);
     let mut classes = match Vec::with_capacity(alloc, nodes.len()) {
         Ok(classes) => classes,
         Err(error) => return Err(error),
     };
     'nodes: for node in nodes {
-        let class = class_alone(alloc, tree, *node, steps);
+        let class = class_alone(alloc, &tree, *node, steps);
         match classes.push(class) {
             Ok(()) => {}
             Err(_) => return Err(AllocError),

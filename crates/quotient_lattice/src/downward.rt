@@ -26,7 +26,7 @@ use cells_below::count_values;
 use qc_arena::Nodes;
 use std::alloc::{AllocError, Global};
 use std::sync::ledger::Ledger;
-use tree_search::upper_into;
+use tree_search::CanonicalTree;
 use value_dict::Dict;
 
 // Whether this is the last place of a number in a sorted list.
@@ -39,25 +39,24 @@ fn is_last(led: &Vec<u32>, i: usize) -> bool
 
 // Appends a node with its cell, if the cell has exactly so many values more.
 fn push_child<T: Nodes, L: Ledger>(
-    tree: &T,
+    tree: &CanonicalTree<T>,
     node: NodeNo,
     values: u32,
     more: usize,
     children: &mut Vec<NodeCell>,
     steps: &mut Steps<L>,
 ) -> Result<(), Memory>
-    requires tree { IsTree (T.width tree.now) (T.tree tree.now) }
-    requires node { IsSome (map.get (T.tree tree.now) node.0) }
+    requires node { IsSome (map.get tree.now.tree node.0) }
     ensures numbers { OnOk result (mapped number_of children.new.items
         ≡ mapped number_of children.old.items
-        ++ cond (nat_eq (more + values) (value_count (record_at (T.tree tree.now) node.0).cell))
+        ++ cond (nat_eq (more + values) (value_count (record_at tree.now.tree node.0).cell))
         (node.0 ∷ []) []) }
-    ensures cells { AreAt (T.tree tree.now) children.old.items
-        → OnOk result (AreAt (T.tree tree.now) children.new.items) }
-    ensures steps { steps.new ≤ steps.old + (2 * T.width tree.now + 2) }
+    ensures cells { AreAt tree.now.tree children.old.items
+        → OnOk result (AreAt tree.now.tree children.new.items) }
+    ensures steps { steps.new ≤ steps.old + (2 * tree.now.width + 2) }
 {
     let mut cell = Cell::any(*children.allocator(), tree.dims());
-    upper_into(tree, node, &mut cell, steps);
+    tree.upper_into(node, &mut cell, steps);
     let all = count_values(&cell) as usize;
     if more <= all && all - more == values as usize {
         return match children.push(NodeCell { node, cell }) {
@@ -73,19 +72,18 @@ fn push_child<T: Nodes, L: Ledger>(
 // `values`.
 fn children_among<T: Nodes, L: Ledger>(
     alloc: Global,
-    tree: &T,
+    tree: &CanonicalTree<T>,
     values: u32,
     led: &Vec<u32>,
     steps: &mut Steps<L>,
 ) -> Result<Vec<NodeCell>, Memory>
-    requires tree { IsTree (T.width tree.now) (T.tree tree.now) }
-    requires there { AreThere (T.tree tree.now) led.now.items }
+    requires there { AreThere tree.now.tree led.now.items }
     requires sorted { IsSorted nat_cmp led.now.items }
     ensures each { IfOk result (λ found. (k : ℕ) → Among k (mapped number_of found.items)
-        ↔ IsPicked (T.tree tree.now) values led.now.items (length led.now.items) k) }
+        ↔ IsPicked tree.now.tree values led.now.items (length led.now.items) k) }
     ensures once { IfOk result (λ found. IsDistinct nat_eq (mapped number_of found.items)) }
-    ensures cells { IfOk result (λ found. AreAt (T.tree tree.now) found.items) }
-    ensures steps { steps.new ≤ steps.old + length led.now.items * (2 * T.width tree.now + 2) }
+    ensures cells { IfOk result (λ found. AreAt tree.now.tree found.items) }
+    ensures steps { steps.new ≤ steps.old + length led.now.items * (2 * tree.now.width + 2) }
 {
     let mut found = Vec::new(alloc);
     let mut more = 0;
@@ -105,24 +103,23 @@ fn children_among<T: Nodes, L: Ledger>(
 /// All children of a class, in no given order.
 pub(crate) fn found_children<T: Nodes, L: Ledger>(
     alloc: Global,
-    tree: &T,
+    tree: &CanonicalTree<T>,
     node: NodeNo,
     steps: &mut Steps<L>,
 ) -> Result<Vec<NodeCell>, Memory>
-    requires tree { IsTree (T.width tree.now) (T.tree tree.now) }
-    requires class { IsSome (record_at (T.tree tree.now) node.0).class }
-    ensures each { (source : TreeRows) → IsTreeOf (T.width tree.now) (T.tree tree.now) source →
+    requires class { IsSome (record_at tree.now.tree node.0).class }
+    ensures each { (source : TreeRows) → IsTreeOf tree.now.width tree.now.tree source →
         IfOk result (λ found. (k : ℕ) → Among k (mapped number_of found.items)
-        ↔ IsPassing (T.tree tree.now) source
-        (λ d. lattice.is_parent nat_cmp source.rows (record_at (T.tree tree.now) node.0).cell d)
+        ↔ IsPassing tree.now.tree source
+        (λ d. lattice.is_parent nat_cmp source.rows (record_at tree.now.tree node.0).cell d)
         k) }
     ensures once { IfOk result (λ found. IsDistinct nat_eq (mapped number_of found.items)) }
-    ensures cells { IfOk result (λ found. AreAt (T.tree tree.now) found.items) }
+    ensures cells { IfOk result (λ found. AreAt tree.now.tree found.items) }
     ensures steps { steps.new ≤ steps.old
-        + 16 * (T.width tree.now + 1) * (edges_on_way (T.tree tree.now) node.0 + 1) }
+        + 16 * (tree.now.width + 1) * (edges_on_way tree.now.tree node.0 + 1) }
 {
     let mut u = Cell::any(alloc, tree.dims());
-    upper_into(tree, node, &mut u, steps);
+    tree.upper_into(node, &mut u, steps);
     let mut led = match child_candidates(alloc, tree, node, &mut u, steps) {
         Ok(led) => led,
         Err(error) => return Err(error),
@@ -156,7 +153,8 @@ pub fn children<T: Nodes, L: Ledger>(
         + 16 * (T.width tree.now + 1) * (edges_on_way (T.tree tree.now) node.0 + 1) }
 {
     let _dims = dict.dims();
-    let mut found = match found_children(alloc, tree, node, steps) {
+    let tree = CanonicalTree::of(tree);
+    let mut found = match found_children(alloc, &tree, node, steps) {
         Ok(found) => found,
         Err(error) => return Err(error),
     };

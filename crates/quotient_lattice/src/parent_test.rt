@@ -3,10 +3,9 @@ ghost use Rattle.std.specs.Option.{option_map};
 ghost use Rattle.std.specs.Ordering.{eq_by_cmp, nat_cmp};
 ghost use Rattle.std.specs.Prelude.{None, Some, if◌then◌else◌, length, ℕ, ◌*◌, ◌+◌, ◌<◌, ◌^◌, ◌≡◌, ◌≤◌};
 ghost use Rattle.cube_defs.specs.Tree.{cell_at};
-ghost use Rattle.tree_search.specs.Found.{IsTreeOf, IsTree, TreeRows, closure_in};
+ghost use Rattle.tree_search.specs.Found.{IsTreeOf, TreeRows, closure_in};
 ghost use Rattle.cells_below.specs.Closed.{IsMarkedBefore};
 ghost use Rattle.cells_below.specs.Numbers.{cell_of_number};
-ghost use Rattle.cells_below.specs.Upper.{IsUpperBound};
 ghost use Rattle.quotient_lattice.specs.Joined.{is_most, joins};
 
 use cell_core::{Cell, NodeNo, Steps};
@@ -14,7 +13,7 @@ use cells_below::{Marks, UpperBound, flip_bit, is_bit_set, write_cell};
 use cube_defs::MAX_DIMS;
 use qc_arena::Nodes;
 use std::sync::ledger::Ledger;
-use tree_search::find;
+use tree_search::CanonicalTree;
 
 // Whether each number with one bit more than m is marked, among the numbers of d bits.
 fn is_maximal(marks: &Marks, d: u32, m: u32) -> bool
@@ -32,15 +31,19 @@ fn is_maximal(marks: &Marks, d: u32, m: u32) -> bool
 }
 
 // The node of a class.
-fn node_of<T: Nodes, L: Ledger>(tree: &T, cell: &Cell, steps: &mut Steps<L>) -> NodeNo
-    requires tree { IsTree (T.width tree.now) (T.tree tree.now) }
-    requires dims { length cell.now ≡ T.width tree.now }
-    requires class { (source : TreeRows) → IsTreeOf (T.width tree.now) (T.tree tree.now) source →
+fn node_of<T: Nodes, L: Ledger>(
+    tree: &CanonicalTree<T>,
+    cell: &Cell,
+    steps: &mut Steps<L>,
+) -> NodeNo
+    requires dims { length cell.now ≡ tree.now.width }
+    requires class { (source : TreeRows) → IsTreeOf tree.now.width tree.now.tree source →
         closure_in source cell.now ≡ Some cell.now }
-    ensures cell { cell_at (T.tree tree.now) result.0 ≡ Some cell.now }
+    ensures cell { cell_at tree.now.tree result.0 ≡ Some cell.now }
     ensures steps { steps.new ≤ steps.old + (2 * length cell.now + 2) }
 {
-    match find(tree, cell, steps) {
+    let _dims = tree.dims();
+    match tree.find(cell, steps) {
         Some(node) => node,
         None => unreachable!(),
     }
@@ -54,16 +57,14 @@ pub(crate) fn parent_at<T: Nodes, L: Ledger>(
     m: u32,
     steps: &mut Steps<L>,
 ) -> Option<NodeNo>
-    requires upper { IsUpperBound (T.width upper.now.tree.now) (T.tree upper.now.tree.now)
-        upper.now.node.0 upper.now.cell.now upper.now.values }
     requires number { m < 2 ^ upper.now.values }
     requires room { 2 ^ upper.now.values ≤ length marks.now }
     requires marked { (source : TreeRows) →
-        IsTreeOf (T.width upper.now.tree.now) (T.tree upper.now.tree.now) source →
+        IsTreeOf upper.now.tree.now.width upper.now.tree.now.tree source →
         IsMarkedBefore source upper.now.cell.now marks.now (2 ^ upper.now.values) }
     ensures value { (source : TreeRows) →
-        IsTreeOf (T.width upper.now.tree.now) (T.tree upper.now.tree.now) source →
-        option_map (λ k. cell_at (T.tree upper.now.tree.now) k.0) result
+        IsTreeOf upper.now.tree.now.width upper.now.tree.now.tree source →
+        option_map (λ k. cell_at upper.now.tree.now.tree k.0) result
         ≡ (if joins source upper.now.cell.now m then
         Some (Some (cell_of_number upper.now.cell.now m)) else None) }
     ensures steps { steps.new ≤ steps.old + (2 * length upper.now.cell.now + 2) }

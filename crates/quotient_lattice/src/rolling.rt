@@ -27,14 +27,19 @@ use indexmap::IndexSet;
 use qc_arena::Nodes;
 use std::alloc::{AllocError, Global};
 use std::sync::ledger::Ledger;
-use tree_search::upper_into;
+use tree_search::CanonicalTree;
 use value_dict::Dict;
 
 // Whether the class of a node passes.
-fn wants<T: Nodes, L: Ledger>(tree: &T, ask: &Ask, node: NodeNo, steps: &mut Steps<L>) -> bool
-    requires class { IsSome (record_at (T.tree tree.now) node.0).class }
-    requires measure { HasMeasure (T.width tree.now) (T.tree tree.now) ask.now.kind }
-    ensures { result ≡ visits.wants (T.tree tree.now) ask.now node.0 }
+fn wants<T: Nodes, L: Ledger>(
+    tree: &CanonicalTree<T>,
+    ask: &Ask,
+    node: NodeNo,
+    steps: &mut Steps<L>,
+) -> bool
+    requires class { IsSome (record_at tree.now.tree node.0).class }
+    requires measure { HasMeasure tree.now.width tree.now.tree ask.now.kind }
+    ensures { result ≡ visits.wants tree.now.tree ask.now node.0 }
 {
     let total = tree.class(node, steps).unwrap();
     passes(ask, &total)
@@ -56,20 +61,19 @@ fn insert_each(seen: &mut IndexSet<u32>, found: &Vec<NodeCell>) -> Result<(), Me
 
 // Appends a node with its cell.
 fn push_placed<T: Nodes, L: Ledger>(
-    tree: &T,
+    tree: &CanonicalTree<T>,
     node: NodeNo,
     met: &mut Vec<NodeCell>,
     steps: &mut Steps<L>,
 ) -> Result<(), Memory>
-    requires tree { IsTree (T.width tree.now) (T.tree tree.now) }
-    requires node { IsSome (map.get (T.tree tree.now) node.0) }
+    requires node { IsSome (map.get tree.now.tree node.0) }
     ensures numbers { OnOk result (mapped number_of met.new.items ≡ mapped number_of met.old.items
         ++ node.0 ∷ []) }
-    ensures cells { AreAt (T.tree tree.now) met.old.items
-        → OnOk result (AreAt (T.tree tree.now) met.new.items) }
+    ensures cells { AreAt tree.now.tree met.old.items
+        → OnOk result (AreAt tree.now.tree met.new.items) }
 {
     let mut cell = Cell::any(*met.allocator(), tree.dims());
-    upper_into(tree, node, &mut cell, steps);
+    tree.upper_into(node, &mut cell, steps);
     match met.push(NodeCell { node, cell }) {
         Ok(()) => Ok(()),
         Err(_) => Err(AllocError),
@@ -78,20 +82,20 @@ fn push_placed<T: Nodes, L: Ledger>(
 
 // Takes a class that passes; of another it looks at the children.
 fn visit<T: Nodes, L: Ledger>(
-    tree: &T,
+    tree: &CanonicalTree<T>,
     ask: &Ask,
     node: NodeNo,
     seen: &mut IndexSet<u32>,
     met: &mut Vec<NodeCell>,
     steps: &mut Steps<L>,
 ) -> Result<(), Memory>
-    requires class { IsSome (record_at (T.tree tree.now) node.0).class }
-    requires measure { HasMeasure (T.width tree.now) (T.tree tree.now) ask.now.kind }
-    ensures visited { (source : TreeRows) → IsTreeOf (T.width tree.now) (T.tree tree.now) source →
-        OnOk result (IsVisited (T.tree tree.now) source ask.now node.0 seen.old.keys seen.new.keys
+    requires class { IsSome (record_at tree.now.tree node.0).class }
+    requires measure { HasMeasure tree.now.width tree.now.tree ask.now.kind }
+    ensures visited { (source : TreeRows) → IsTreeOf tree.now.width tree.now.tree source →
+        OnOk result (IsVisited tree.now.tree source ask.now node.0 seen.old.keys seen.new.keys
         (mapped number_of met.old.items) (mapped number_of met.new.items)) }
-    ensures cells { AreAt (T.tree tree.now) met.old.items
-        → OnOk result (AreAt (T.tree tree.now) met.new.items) }
+    ensures cells { AreAt tree.now.tree met.old.items
+        → OnOk result (AreAt tree.now.tree met.new.items) }
 {
     if wants(tree, ask, node, steps) {
         return push_placed(tree, node, met, steps);
@@ -104,22 +108,22 @@ fn visit<T: Nodes, L: Ledger>(
 
 // Visits the class of each number that is seen, from the first one on. Each class is visited once.
 fn meet_all<T: Nodes, L: Ledger>(
-    tree: &T,
+    tree: &CanonicalTree<T>,
     ask: &Ask,
     node: NodeNo,
     seen: &mut IndexSet<u32>,
     met: &mut Vec<NodeCell>,
     steps: &mut Steps<L>,
 ) -> Result<(), Memory>
-    requires class { IsSome (record_at (T.tree tree.now) node.0).class }
-    requires measure { HasMeasure (T.width tree.now) (T.tree tree.now) ask.now.kind }
+    requires class { IsSome (record_at tree.now.tree node.0).class }
+    requires measure { HasMeasure tree.now.width tree.now.tree ask.now.kind }
     requires none_seen { seen.old.keys ≡ [] }
     requires none_met { met.old.items ≡ [] }
-    ensures met { (source : TreeRows) → IsTreeOf (T.width tree.now) (T.tree tree.now) source →
-        OnOk result (AreMet (T.tree tree.now) source ask.now node.0
+    ensures met { (source : TreeRows) → IsTreeOf tree.now.width tree.now.tree source →
+        OnOk result (AreMet tree.now.tree source ask.now node.0
         (mapped number_of met.new.items)) }
     ensures once { OnOk result (IsDistinct nat_eq (mapped number_of met.new.items)) }
-    ensures cells { OnOk result (AreAt (T.tree tree.now) met.new.items) }
+    ensures cells { OnOk result (AreAt tree.now.tree met.new.items) }
 {
     if seen.insert(node.0).is_err() {
         return Err(AllocError);
@@ -139,18 +143,18 @@ fn meet_all<T: Nodes, L: Ledger>(
 // From a class on: all classes that pass and are met through the children of those that don't.
 fn met_from<T: Nodes, L: Ledger>(
     alloc: Global,
-    tree: &T,
+    tree: &CanonicalTree<T>,
     ask: &Ask,
     node: NodeNo,
     steps: &mut Steps<L>,
 ) -> Result<Vec<NodeCell>, Memory>
-    requires class { IsSome (record_at (T.tree tree.now) node.0).class }
-    requires measure { HasMeasure (T.width tree.now) (T.tree tree.now) ask.now.kind }
-    ensures met { (source : TreeRows) → IsTreeOf (T.width tree.now) (T.tree tree.now) source →
-        IfOk result (λ met. AreMet (T.tree tree.now) source ask.now node.0
+    requires class { IsSome (record_at tree.now.tree node.0).class }
+    requires measure { HasMeasure tree.now.width tree.now.tree ask.now.kind }
+    ensures met { (source : TreeRows) → IsTreeOf tree.now.width tree.now.tree source →
+        IfOk result (λ met. AreMet tree.now.tree source ask.now node.0
         (mapped number_of met.items)) }
     ensures once { IfOk result (λ met. IsDistinct nat_eq (mapped number_of met.items)) }
-    ensures cells { IfOk result (λ met. AreAt (T.tree tree.now) met.items) }
+    ensures cells { IfOk result (λ met. AreAt tree.now.tree met.items) }
 {
     let mut seen = IndexSet::new(alloc);
     let mut met = Vec::new(alloc);
@@ -222,7 +226,8 @@ pub fn rollup<T: Nodes, L: Ledger>(
         (λ nodes. All (λ node. IsSome (record_at (T.tree tree.now) node.0).class) nodes.items) }
 {
     let _dims = dict.dims();
-    let met = match met_from(alloc, tree, ask, node, steps) {
+    let tree = CanonicalTree::of(tree);
+    let met = match met_from(alloc, &tree, ask, node, steps) {
         Ok(met) => met,
         Err(error) => return Err(error),
     };

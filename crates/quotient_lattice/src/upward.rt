@@ -5,10 +5,9 @@ ghost use Rattle.std.specs.Prelude.{All, IfOk, IsSome, OnOk, Some, false, true, 
 ghost use Rattle.cube_defs.specs.Tree.{as_list, cell_at};
 ghost use Rattle.qc_arena.specs.RecordReaders.{record_at};
 ghost use Rattle.tree_search.specs.Found.{IsTreeOf, IsTree, TreeRows};
-ghost use Rattle.cells_below.specs.Closed.{IsMarkedBefore, has_closure_in};
+ghost use Rattle.cells_below.specs.Closed.{IsMarkedBefore};
 ghost use Rattle.cells_below.specs.Marks.{is_marked};
 ghost use Rattle.cells_below.specs.Numbers.{cell_of_number};
-ghost use Rattle.cells_below.specs.Upper.{IsUpperBound};
 ghost use Rattle.cube_laws.specs.Parts.{value_count};
 ghost use Rattle.quotient_lattice.specs.Neighbours as lattice;
 ghost use Rattle.quotient_lattice.specs.DecodedNodes.{decoded_nodes};
@@ -25,7 +24,7 @@ use cells_below::{Marks, UpperBound, bounds_at, count_values, needed};
 use qc_arena::Nodes;
 use std::alloc::{AllocError, Global};
 use std::sync::ledger::Ledger;
-use tree_search::upper_into;
+use tree_search::CanonicalTree;
 use value_dict::Dict;
 
 /// The nodes of all parents of a class, in cell order by the texts of the dictionary. The
@@ -52,40 +51,35 @@ pub fn parents<T: Nodes, L: Ledger>(
         (record_at (T.tree tree.now) node.0).cell }
 {
     let _dims = dict.dims();
+    let tree = CanonicalTree::of(tree);
     let mut u = Cell::any(alloc, tree.dims());
-    upper_into(tree, node, &mut u, steps);
-    parents_of_cell(alloc, tree, node, &u, steps)
+    tree.upper_into(node, &mut u, steps);
+    let upper = UpperBound {
+        tree: &tree,
+        node,
+        cell: &u,
+        values: count_values(&u),
+    };
+    parents_of(alloc, &upper, steps)
 }
 
-// The parents of the node's cell u.
-fn parents_of_cell<T: Nodes, L: Ledger>(
+// The parents of a class.
+fn parents_of<T: Nodes, L: Ledger>(
     alloc: Global,
-    tree: &T,
-    node: NodeNo,
-    u: &Cell,
+    upper: &UpperBound<T>,
     steps: &mut Steps<L>,
 ) -> Result<Vec<NodeNo>, Memory>
-    requires tree { IsTree (T.width tree.now) (T.tree tree.now) }
-    requires upper { cell_at (T.tree tree.now) node.0 ≡ Some u.now }
-    requires own { (source : TreeRows) → IsTreeOf (T.width tree.now) (T.tree tree.now) source →
-        has_closure_in source u.now u.now ≡ true }
-    ensures nodes { (source : TreeRows) → IsTreeOf (T.width tree.now) (T.tree tree.now) source →
-        IfOk result (λ nodes. map (λ k. cell_at (T.tree tree.now) k.0) nodes.items
-        ≡ map (λ c. Some c) (lattice.parents nat_cmp source.rows u.now)) }
-    ensures steps { steps.new ≤ steps.old + (value_count u.now + 2 * 2 ^ value_count u.now)
-        * (2 * length u.now + 2) }
+    ensures nodes { (source : TreeRows) →
+        IsTreeOf upper.now.tree.now.width upper.now.tree.now.tree source →
+        IfOk result (λ nodes. map (λ k. cell_at upper.now.tree.now.tree k.0) nodes.items
+        ≡ map (λ c. Some c) (lattice.parents nat_cmp source.rows upper.now.cell.now)) }
+    ensures steps { steps.new ≤ steps.old + (upper.now.values + 2 * 2 ^ upper.now.values)
+        * (2 * length upper.now.cell.now + 2) }
 {
-    let d = count_values(u);
-    match Marks::new(alloc, 1 << d) {
+    match Marks::new(alloc, 1 << upper.values) {
         Ok(mut marks) => {
-            let upper = UpperBound {
-                tree,
-                node,
-                cell: u,
-                values: d,
-            };
-            mark_all(&upper, &mut marks, steps);
-            parents_by_marks(alloc, &upper, &marks, steps)
+            mark_all(upper, &mut marks, steps);
+            parents_by_marks(alloc, upper, &marks, steps)
         }
         Err(error) => Err(error),
     }
@@ -93,12 +87,10 @@ fn parents_of_cell<T: Nodes, L: Ledger>(
 
 // Marks the numbers whose cells are in the class.
 fn mark_all<T: Nodes, L: Ledger>(upper: &UpperBound<T>, marks: &mut Marks, steps: &mut Steps<L>)
-    requires upper { IsUpperBound (T.width upper.now.tree.now) (T.tree upper.now.tree.now)
-        upper.now.node.0 upper.now.cell.now upper.now.values }
     requires room { 2 ^ upper.now.values ≤ length marks.old }
     requires none { (j : ℕ) → is_marked marks.old j ≡ false }
     ensures marked { (source : TreeRows) →
-        IsTreeOf (T.width upper.now.tree.now) (T.tree upper.now.tree.now) source →
+        IsTreeOf upper.now.tree.now.width upper.now.tree.now.tree source →
         IsMarkedBefore source upper.now.cell.now marks.new (2 ^ upper.now.values) }
     ensures room { 2 ^ upper.now.values ≤ length marks.new }
     ensures steps { steps.new ≤ steps.old
@@ -118,15 +110,13 @@ fn parents_by_marks<T: Nodes, L: Ledger>(
     marks: &Marks,
     steps: &mut Steps<L>,
 ) -> Result<Vec<NodeNo>, Memory>
-    requires upper { IsUpperBound (T.width upper.now.tree.now) (T.tree upper.now.tree.now)
-        upper.now.node.0 upper.now.cell.now upper.now.values }
     requires room { 2 ^ upper.now.values ≤ length marks.now }
     requires marked { (source : TreeRows) →
-        IsTreeOf (T.width upper.now.tree.now) (T.tree upper.now.tree.now) source →
+        IsTreeOf upper.now.tree.now.width upper.now.tree.now.tree source →
         IsMarkedBefore source upper.now.cell.now marks.now (2 ^ upper.now.values) }
     ensures nodes { (source : TreeRows) →
-        IsTreeOf (T.width upper.now.tree.now) (T.tree upper.now.tree.now) source →
-        IfOk result (λ nodes. map (λ k. cell_at (T.tree upper.now.tree.now) k.0) nodes.items
+        IsTreeOf upper.now.tree.now.width upper.now.tree.now.tree source →
+        IfOk result (λ nodes. map (λ k. cell_at upper.now.tree.now.tree k.0) nodes.items
         ≡ map (λ m. Some (cell_of_number upper.now.cell.now m))
         (filter (joins source upper.now.cell.now) (range_with_len 0 (2 ^ upper.now.values)))) }
     ensures steps { steps.new ≤ steps.old

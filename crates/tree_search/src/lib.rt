@@ -2,10 +2,12 @@
 //! the point query of QC-trees (Lakshmanan, Pei, Zhao, SIGMOD 2003). No call takes memory.
 #![tactic(auto)]
 
+mod canonical;
 mod climb;
 mod search;
 mod totals;
 
+pub use canonical::CanonicalTree;
 pub use climb::upper_into;
 pub use search::{find, step, step_with_forced};
 pub use totals::total_at;

@@ -7,7 +7,7 @@ use Rattle.cube_laws.specs.Parts.{value_count}
 
 pub returns-then-not-is_minimal-clause-value : goal.returns-then-not-is_minimal-clause-value
 returns-then-not-is_minimal-clause-value g c = λ source h.
-    let values = c.requires.upper.at_node.values in
+    let values = c.args.upper.now.counted in
     no_bound source c.args.upper.now.cell.now c.args.marks.now c.args.m
     (subst (λ d. c.args.m < 2 ^ d) values c.requires.number) (c.requires.below source h)
     (subst (λ d. is_least c.args.marks.now d c.args.m ≡ false) values (sym c.if-not-is_minimal.ensures))
@@ -16,7 +16,7 @@ pub returns-then-not-is_minimal-clause-below : goal.returns-then-not-is_minimal-
 returns-then-not-is_minimal-clause-below g c = λ source h.
     let u = c.args.upper.now.cell.now in
     let old = c.args.marks.now in
-    let values = c.requires.upper.at_node.values in
+    let values = c.args.upper.now.counted in
     let l : c.args.m < 2 ^ value_count u = subst (λ d. c.args.m < 2 ^ d) values c.requires.number in
     let least = subst (λ d. is_least old d c.args.m ≡ false) values (sym c.if-not-is_minimal.ensures) in
     subst (λ marks. IsMarkedBefore source u marks (c.args.m + 1)) (sym c.set.ensures)
@@ -25,7 +25,7 @@ returns-then-not-is_minimal-clause-below g c = λ source h.
 
 pub returns-clause-value : goal.returns-clause-value
 returns-clause-value g c = λ source h.
-    let values = c.requires.upper.at_node.values in
+    let values = c.args.upper.now.counted in
     is_bound source c.args.upper.now.cell.now c.args.marks.now c.args.m
     (subst (λ d. c.args.m < 2 ^ d) values c.requires.number) (c.requires.below source h)
     (sym (c.if-not-closes_for_number.ensures.value source h))

@@ -10,6 +10,6 @@ returns-then-m-upper-clause-value g c = λ source h.
     let upper = c.args.upper.now in
     let bits : c.args.m + 1 ≡ 2 ^ upper.values = omega (arith, one_shl upper.values 32 (omega arith)) in
     let whole : c.args.m + 1 ≡ 2 ^ value_count upper.cell.now
-    = bits ∙ ap (λ (n : ℕ). 2 ^ n) c.requires.upper.at_node.values in
+    = bits ∙ ap (λ (n : ℕ). 2 ^ n) upper.counted in
     sym (ap (has_closure_in source upper.cell.now) (whole_cell upper.cell.now c.args.m whole)
-    ∙ c.requires.upper.own source h)
+    ∙ upper.own source h)

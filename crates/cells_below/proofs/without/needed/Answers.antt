@@ -5,7 +5,7 @@ use Rattle.cells_below.proofs.without.needed.Goals as goal
 
 pub bits-init : goal.bits-init
 bits-init g c = record {
-  dims = c.requires.dims;
+  dims = c.requires;
   are = λ source h. none_needed source c.args.upper.now.cell.now;
   steps = omega arith;
 }
@@ -15,7 +15,7 @@ bits-preserved g c = record {
   dims = c.closes_at-closes.ensures.dims;
   are = λ source h.
       let u = c.args.upper.now.cell.now in
-      let few = subst (λ d. d ≤ 16) c.requires.upper.values c.requires.upper.few in
+      let few = subst (λ d. d ≤ 16) c.args.upper.now.counted c.args.upper.now.few in
       subst (AreNeeded source u) (sym c.with_needed_bit-needed.ensures)
       (needed_if source u c.bits.k few c.bits.needed c.closes_at-closes.result
       (c.closes_at-closes.ensures.value source h ∙ ap (closes source u) c.flip_bit.ensures)

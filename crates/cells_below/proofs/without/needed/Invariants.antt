@@ -6,7 +6,7 @@ use Rattle.cells_below.proofs.without.needed.Given as goal
 abbrev pub invariant-bits : goal.invariant-bits
 invariant-bits g l = record {
   dims : length l.cell ≡ length l.upper.cell.now;
-  are : (source : TreeRows) → IsTreeOf (g.T.Nodes.width l.upper.tree.now) (g.T.Nodes.tree l.upper.tree.now) source →
+  are : (source : TreeRows) → IsTreeOf l.upper.tree.now.width l.upper.tree.now.tree source →
       AreNeeded source l.upper.cell.now l.needed;
   steps : l.steps ≤ l.fn.steps + l.k * (2 * length l.upper.cell.now + 2);
 }

@@ -3,34 +3,33 @@ use Rattle.std.specs.Prelude.{slice_get}
 use Rattle.cube_defs.specs.Cell.{cell_prefix, depth}
 use Rattle.cube_laws.specs.Parts.{value_count}
 use Rattle.cube_laws.proofs.CallerLemmas.{depth-le}
-use Rattle.cells_below.proofs.CallerLemmas.{upper_wide}
 use Rattle.lower_bounds.proofs.CallerLemmas.{few_values}
 use Rattle.qc_arena.specs.RecordReaders.{number, record_at}
 use Rattle.tree_laws.proofs.CallerLemmas.{label_none, label_some, cell_prefix-beyond, cell_prefix-cell_prefix, get-cell_prefix, there}
 use Rattle.tree_search.proofs.CallerLemmas.{has_parent, last_within, cell_of}
 use Rattle.quotient_lattice.specs.Candidates.{edges_on_way, lead_count}
 use Rattle.quotient_lattice.proofs.Counted.{steps_end, steps_up, times_more}
-use Rattle.quotient_lattice.proofs.OnWay.{IsUp, count_value, goes_up, own_edges, root_edges}
+use Rattle.quotient_lattice.proofs.OnWay.{IsUp, count_value, goes_up, own_edges, root_edges, upper_wide}
 use Rattle.quotient_lattice.proofs.candidates.child_candidates.Given as given
 use Rattle.quotient_lattice.proofs.candidates.child_candidates.Goals as goal
 use Rattle.quotient_lattice.proofs.candidates.child_candidates.Goals.{After-unwrap-at}
 
 -- one node up
 went_up : (g : given.Over) (c : After-unwrap-at g)
-    → IsUp _ _ c.requires.tree.0 c.requires.tree.1 c.up.at.0 c.up.invariant.at c.in-Some.dim c.in-Some._code
+    → IsUp _ _ c.dims.ensures.rows.0 c.dims.ensures.rows.1 c.up.at.0 c.up.invariant.at c.in-Some.dim c.in-Some._code
     (sym c.in-Some.ensures.value) c.unwrap-at.result.0
-went_up g c = goes_up _ _ c.requires.tree.0 c.requires.tree.1 c.up.at.0 c.up.invariant.at c.in-Some.dim c.in-Some._code
+went_up g c = goes_up _ _ c.dims.ensures.rows.0 c.dims.ensures.rows.1 c.up.at.0 c.up.invariant.at c.in-Some.dim c.in-Some._code
     (sym c.in-Some.ensures.value) number c.parent.result c.unwrap-at.result c.parent.ensures.value c.unwrap-at.ensures
 
 -- what is left of the steps there
 left : (g : given.Over) (c : After-unwrap-at g) →
-    c.up.steps + (2 * length c.args.u.now + 3) * (length (record_at (g.T.Nodes.tree c.args.tree.now) c.up.at.0).edges
-    + edges_on_way (g.T.Nodes.tree c.args.tree.now) c.unwrap-at.result.0)
-    + 3 * suc (value_count (record_at (g.T.Nodes.tree c.args.tree.now) c.unwrap-at.result.0).cell)
-    ≤ c.args.steps.now + (2 * length c.args.u.now + 3) * (edges_on_way (g.T.Nodes.tree c.args.tree.now) c.args.node.0
-    + length (record_at (g.T.Nodes.tree c.args.tree.now) c.up.at.0).edges) + 3 * value_count c.args.u.now + 1
+    c.up.steps + (2 * length c.args.u.now + 3) * (length (record_at c.args.tree.now.tree c.up.at.0).edges
+    + edges_on_way c.args.tree.now.tree c.unwrap-at.result.0)
+    + 3 * suc (value_count (record_at c.args.tree.now.tree c.unwrap-at.result.0).cell)
+    ≤ c.args.steps.now + (2 * length c.args.u.now + 3) * (edges_on_way c.args.tree.now.tree c.args.node.0
+    + length (record_at c.args.tree.now.tree c.up.at.0).edges) + 3 * value_count c.args.u.now + 1
 left g c =
-    let tree = g.T.Nodes.tree c.args.tree.now in
+    let tree = c.args.tree.now.tree in
     let u = c.args.u.now in
     let at = c.up.at.0 in
     let on = c.unwrap-at.result.0 in
@@ -44,20 +43,20 @@ left g c =
     + 1) up.edges before
 
 pub push_labels-requires-clause-dims : goal.push_labels-requires-clause-dims
-push_labels-requires-clause-dims g c = upper_wide _ _ c.args.node.0 c.args.u.now c.requires.upper c.requires.tree
+push_labels-requires-clause-dims g c = upper_wide _ _ c.args.node.0 c.args.u.now c.requires.upper c.dims.ensures.rows
 
 pub push_labels-requires-clause-front : goal.push_labels-requires-clause-front
 push_labels-requires-clause-front g c =
     let u = c.args.u.now in
-    let wide = upper_wide _ _ c.args.node.0 u c.requires.upper c.requires.tree in
+    let wide = upper_wide _ _ c.args.node.0 u c.requires.upper c.dims.ensures.rows in
     cell_of _ c.args.node.0 u c.requires.upper
     ∙ sym (cell_prefix-beyond c.dims.result u (omega (arith, depth-le u, wide, c.dims.ensures.value)))
 
 pub returns-in-Err-clause-steps : goal.returns-in-Err-clause-steps
 returns-in-Err-clause-steps g c =
-    let n = g.T.Nodes.width c.args.tree.now in
-    let tree = g.T.Nodes.tree c.args.tree.now in
-    let wide = upper_wide _ _ c.args.node.0 c.args.u.now c.requires.upper c.requires.tree in
+    let n = c.args.tree.now.width in
+    let tree = c.args.tree.now.tree in
+    let wide = upper_wide _ _ c.args.node.0 c.args.u.now c.requires.upper c.dims.ensures.rows in
     let s = subst (λ m. c.push_labels.new.steps ≤ c.args.steps.now
     + (1 + length (record_at tree c.args.node.0).edges * (2 * m + 3))) wide c.in-Err.ensures.steps in
     omega (
@@ -69,8 +68,8 @@ returns-in-Err-clause-steps g c =
 
 pub up-init : goal.up-init
 up-init g c =
-    let n = g.T.Nodes.width c.args.tree.now in
-    let tree = g.T.Nodes.tree c.args.tree.now in
+    let n = c.args.tree.now.width in
+    let tree = c.args.tree.now.tree in
     let u = c.args.u.now in
     let own = cell_of tree c.args.node.0 u c.requires.upper in
     record {
@@ -86,12 +85,12 @@ up-init g c =
 
 pub unwrap-at-requires : goal.unwrap-at-requires
 unwrap-at-requires g c =
-    has_parent _ _ c.requires.tree.0 c.requires.tree.1 c.up.at.0 c.up.invariant.at c.in-Some.dim c.in-Some._code
+    has_parent _ _ c.dims.ensures.rows.0 c.dims.ensures.rows.1 c.up.at.0 c.up.invariant.at c.in-Some.dim c.in-Some._code
     (sym c.in-Some.ensures.value) number c.parent.result c.parent.ensures.value
 
 pub push_labels-requires-in-Some-clause-dims : goal.push_labels-requires-in-Some-clause-dims
 push_labels-requires-in-Some-clause-dims g c = ap length c.up.invariant.same
-    ∙ upper_wide _ _ c.args.node.0 c.args.u.now c.requires.upper c.requires.tree
+    ∙ upper_wide _ _ c.args.node.0 c.args.u.now c.requires.upper c.dims.ensures.rows
 
 pub push_labels-requires-in-Some-clause-at : goal.push_labels-requires-in-Some-clause-at
 push_labels-requires-in-Some-clause-at g c =
@@ -99,13 +98,13 @@ push_labels-requires-in-Some-clause-at g c =
 
 pub push_labels-requires-in-Some-clause-end : goal.push_labels-requires-in-Some-clause-end
 push_labels-requires-in-Some-clause-end g c =
-    let l = last_within _ _ c.requires.tree.0 c.requires.tree.1 c.up.at.0 c.up.invariant.at c.in-Some.dim
+    let l = last_within _ _ c.dims.ensures.rows.0 c.dims.ensures.rows.1 c.up.at.0 c.up.invariant.at c.in-Some.dim
     c.in-Some._code (sym c.in-Some.ensures.value) in
     omega arith
 
 pub push_labels-requires-in-Some-clause-front : goal.push_labels-requires-in-Some-clause-front
 push_labels-requires-in-Some-clause-front g c =
-    let tree = g.T.Nodes.tree c.args.tree.now in
+    let tree = c.args.tree.now.tree in
     let up = went_up g (goal.at.push_labels-requires-in-Some-clause-front g c).After-unwrap-at in
     let deep = (label_some (record_at tree c.up.at.0).cell c.in-Some.dim c.in-Some._code
     (sym c.in-Some.ensures.value)).0 in
@@ -115,13 +114,13 @@ push_labels-requires-in-Some-clause-front g c =
 
 pub push_labels-requires-in-Some-clause-led : goal.push_labels-requires-in-Some-clause-led
 push_labels-requires-in-Some-clause-led g c = λ source h k t.
-    let n = g.T.Nodes.width c.args.tree.now in
-    let tree = g.T.Nodes.tree c.args.tree.now in
+    let n = c.args.tree.now.width in
+    let tree = c.args.tree.now.tree in
     let u = c.args.u.now in
     let d = (record_at tree k).cell in
     let label = label_some (record_at tree c.up.at.0).cell c.in-Some.dim c.in-Some._code
     (sym c.in-Some.ensures.value) in
-    let within = last_within _ _ c.requires.tree.0 c.requires.tree.1 c.up.at.0 c.up.invariant.at c.in-Some.dim
+    let within = last_within _ _ c.dims.ensures.rows.0 c.dims.ensures.rows.1 c.up.at.0 c.up.invariant.at c.in-Some.dim
     c.in-Some._code (sym c.in-Some.ensures.value) in
     let value : slice_get u c.in-Some.dim ≡ Some (Some c.in-Some._code)
     = sym (get-cell_prefix c.in-Some.dim (depth (record_at tree c.up.at.0).cell) u (omega (arith, label.0)))
@@ -139,8 +138,8 @@ up-smaller g c =
 
 pub up-preserved : goal.up-preserved
 up-preserved g c =
-    let tree = g.T.Nodes.tree c.args.tree.now in
-    let n = g.T.Nodes.width c.args.tree.now in
+    let tree = c.args.tree.now.tree in
+    let n = c.args.tree.now.width in
     let u = c.args.u.now in
     let at = c.up.at.0 in
     let on = c.unwrap-at.result.0 in
@@ -172,8 +171,8 @@ up-preserved g c =
 
 pub returns-in-Err-push_labels-clause-steps : goal.returns-in-Err-push_labels-clause-steps
 returns-in-Err-push_labels-clause-steps g c =
-    let tree = g.T.Nodes.tree c.args.tree.now in
-    let n = g.T.Nodes.width c.args.tree.now in
+    let tree = c.args.tree.now.tree in
+    let n = c.args.tree.now.width in
     let u = c.args.u.now in
     let at = c.up.at.0 in
     let on = c.unwrap-at.result.0 in
@@ -188,14 +187,14 @@ returns-in-Err-push_labels-clause-steps g c =
     let end = steps_end (length u) n c.args.steps.now (edges_on_way tree on) (edges_on_way tree c.args.node.0)
     (value_count u) c.push_labels-in-Some.new.steps (length (record_at tree on).edges)
     (value_count (record_at tree on).cell)
-    (upper_wide _ _ c.args.node.0 u c.requires.upper c.requires.tree) (few_values u) (own_edges tree on) more in
+    (upper_wide _ _ c.args.node.0 u c.requires.upper c.dims.ensures.rows) (few_values u) (own_edges tree on) more in
     omega (arith, end)
 
 pub returns-clause-led : goal.returns-clause-led
 returns-clause-led g c = λ source h k t.
-    let tree = g.T.Nodes.tree c.args.tree.now in
+    let tree = c.args.tree.now.tree in
     c.up.invariant.led source h k t
-    ∙ ap (λ a. lead_count source c.args.u.now (record_at tree k).cell a (g.T.Nodes.width c.args.tree.now))
+    ∙ ap (λ a. lead_count source c.args.u.now (record_at tree k).cell a (c.args.tree.now.width))
     (label_none (record_at tree c.up.at.0).cell (sym c.in_default.ensures.value))
 
 pub returns-clause-few : goal.returns-clause-few
@@ -203,16 +202,16 @@ returns-clause-few g c =
     omega (
       arith,
       c.up.invariant.few,
-      root_edges (g.T.Nodes.tree c.args.tree.now) c.up.at.0 (sym c.in_default.ensures.value),
+      root_edges c.args.tree.now.tree c.up.at.0 (sym c.in_default.ensures.value),
     )
 
 pub returns-clause-steps : goal.returns-clause-steps
 returns-clause-steps g c =
-    let tree = g.T.Nodes.tree c.args.tree.now in
+    let tree = c.args.tree.now.tree in
     let u = c.args.u.now in
-    let end = steps_end (length u) (g.T.Nodes.width c.args.tree.now) c.args.steps.now (edges_on_way tree c.up.at.0)
+    let end = steps_end (length u) (c.args.tree.now.width) c.args.steps.now (edges_on_way tree c.up.at.0)
     (edges_on_way tree c.args.node.0) (value_count u) c.up.steps (length (record_at tree c.up.at.0).edges)
     (value_count (record_at tree c.up.at.0).cell)
-    (upper_wide _ _ c.args.node.0 u c.requires.upper c.requires.tree) (few_values u)
+    (upper_wide _ _ c.args.node.0 u c.requires.upper c.dims.ensures.rows) (few_values u)
     (own_edges tree c.up.at.0) c.up.invariant.steps in
     omega (arith, end, c.end_of.ensures.steps)

@@ -11,20 +11,20 @@ use Rattle.quotient_lattice.proofs.candidates.child_candidates.Given as goal
 abbrev pub invariant-up : goal.invariant-up
 invariant-up g l = record {
   same : l.u ≡ l.fn.u;
-  at : IsSome (map.get (g.T.Nodes.tree l.tree) l.at.0);
-  front : (record_at (g.T.Nodes.tree l.tree) l.at.0).cell
-      ≡ cell_prefix (depth (record_at (g.T.Nodes.tree l.tree) l.at.0).cell) l.fn.u;
-  led : (source : TreeRows) → IsTreeOf (g.T.Nodes.width l.tree) (g.T.Nodes.tree l.tree) source
-      → AreFound source (g.T.Nodes.tree l.tree) l.fn.u (depth (record_at (g.T.Nodes.tree l.tree) l.at.0).cell)
-      (g.T.Nodes.width l.tree) l.led.items;
-  there : AreThere (g.T.Nodes.tree l.tree) l.led.items;
-  few : length l.led.items + edges_on_way (g.T.Nodes.tree l.tree) l.at.0 ≤ edges_on_way
-      (g.T.Nodes.tree l.tree) l.fn.node.0 + length (record_at (g.T.Nodes.tree l.tree) l.at.0).edges;
-  steps : l.steps + (2 * length l.fn.u + 3) * edges_on_way (g.T.Nodes.tree l.tree) l.at.0 + 3 * value_count
-      (record_at (g.T.Nodes.tree l.tree) l.at.0).cell
-      ≤ l.fn.steps + (2 * length l.fn.u + 3) * (edges_on_way (g.T.Nodes.tree l.tree) l.fn.node.0
-      + length (record_at (g.T.Nodes.tree l.tree) l.at.0).edges) + 3 * value_count l.fn.u + 1;
+  at : IsSome (map.get l.tree.tree l.at.0);
+  front : (record_at l.tree.tree l.at.0).cell
+      ≡ cell_prefix (depth (record_at l.tree.tree l.at.0).cell) l.fn.u;
+  led : (source : TreeRows) → IsTreeOf l.tree.width l.tree.tree source
+      → AreFound source l.tree.tree l.fn.u (depth (record_at l.tree.tree l.at.0).cell)
+      l.tree.width l.led.items;
+  there : AreThere l.tree.tree l.led.items;
+  few : length l.led.items + edges_on_way l.tree.tree l.at.0 ≤ edges_on_way
+      l.tree.tree l.fn.node.0 + length (record_at l.tree.tree l.at.0).edges;
+  steps : l.steps + (2 * length l.fn.u + 3) * edges_on_way l.tree.tree l.at.0 + 3 * value_count
+      (record_at l.tree.tree l.at.0).cell
+      ≤ l.fn.steps + (2 * length l.fn.u + 3) * (edges_on_way l.tree.tree l.fn.node.0
+      + length (record_at l.tree.tree l.at.0).edges) + 3 * value_count l.fn.u + 1;
 }
 
 abbrev pub decreases-up : goal.decreases-up
-decreases-up g l = depth (record_at (g.T.Nodes.tree l.tree) l.at.0).cell
+decreases-up g l = depth (record_at l.tree.tree l.at.0).cell

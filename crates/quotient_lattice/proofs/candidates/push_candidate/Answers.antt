@@ -23,7 +23,7 @@ returns-in_default-clause-same g c = c.set-2.ensures.value ∙ ap (λ x. set x c
 
 pub returns-in-Ok-clause-led : goal.returns-in-Ok-clause-led
 returns-in-Ok-clause-led g c = λ source h k t.
-    let tree = g.T.Nodes.tree c.args.tree.now in
+    let tree = c.args.tree.now.tree in
     ap (times k) c.in-Ok.ensures.items ∙ times-push k c.in-Some.node.0 c.args.led.now.items
     ∙ ap (λ n. times k c.args.led.now.items + n)
     (found_some _ tree source h c.set.new.self k t c.in-Some.node.0 (c.in-Some.ensures.found source h)
@@ -31,8 +31,8 @@ returns-in-Ok-clause-led g c = λ source h k t.
 
 pub returns-in-Ok-clause-there : goal.returns-in-Ok-clause-there
 returns-in-Ok-clause-there g c = λ there.
-    subst (AreThere (g.T.Nodes.tree c.args.tree.now)) (sym c.in-Ok.ensures.items)
-    (All-push (λ k. IsSome (map.get (g.T.Nodes.tree c.args.tree.now) k)) c.args.led.now.items c.in-Some.node.0 there
+    subst (AreThere c.args.tree.now.tree) (sym c.in-Ok.ensures.items)
+    (All-push (λ k. IsSome (map.get c.args.tree.now.tree k)) c.args.led.now.items c.in-Some.node.0 there
     c.in-Some.ensures.there)
 
 pub returns-in-Ok-clause-steps : goal.returns-in-Ok-clause-steps

@@ -14,7 +14,7 @@ use Rattle.quotient_lattice.proofs.candidates.push_labels.Goals.{then-dim-end+in
 
 pub push_candidate-requires-clause-any : goal.push_candidate-requires-clause-any
 push_candidate-requires-clause-any g c =
-    let tree = g.T.Nodes.tree c.args.tree.now in
+    let tree = c.args.tree.now.tree in
     let u = c.args.u.now in
     let x : Edge _ _ = record {
       dim = c.edge_at-dim.result.0;
@@ -22,7 +22,7 @@ push_candidate-requires-clause-any g c =
       target
           = c.edge_at-dim.result.2.0;
     } in
-    let behind = edge_after _ tree c.requires.tree.0 c.requires.tree.1 c.args.at.0 c.requires.at x
+    let behind = edge_after _ tree c.dims-dims.ensures.rows.0 c.dims-dims.ensures.rows.1 c.args.at.0 c.requires.at x
     (get_among (record_at tree c.args.at.0).edges c.edges.k x c.edge_at-dim.ensures.value) in
     ap (λ z. slice_get z c.edge_at-dim.result.0) c.edges.invariant.same
     ∙ any_between u c.args.end c.edge_at-dim.result.0
@@ -31,7 +31,7 @@ push_candidate-requires-clause-any g c =
 
 pub edges-preserved : goal.edges-preserved
 edges-preserved g c =
-    let tree = g.T.Nodes.tree c.args.tree.now in
+    let tree = c.args.tree.now.tree in
     let u = c.args.u.now in
     let edges = (record_at tree c.args.at.0).edges in
     let x : Edge _ _ = record {
@@ -73,9 +73,9 @@ edges-preserved g c =
 
 pub returns-clause-led : goal.returns-clause-led
 returns-clause-led g c = λ source h k t.
-    let tree = g.T.Nodes.tree c.args.tree.now in
+    let tree = c.args.tree.now.tree in
     let u = c.args.u.now in
-    let n = g.T.Nodes.width c.args.tree.now in
+    let n = c.args.tree.now.width in
     let d = (record_at tree k).cell in
     let edges = (record_at tree c.args.at.0).edges in
     let own = closed source u u (c.requires.own source h) in

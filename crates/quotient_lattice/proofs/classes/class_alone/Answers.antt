@@ -13,9 +13,9 @@ use Rattle.quotient_lattice.proofs.classes.class_alone.Goals as goal
 
 pub returns : goal.returns
 returns g c = λ source h.
-    let tree = g.T.Nodes.tree c.args.tree.now in
+    let tree = c.args.tree.now.tree in
     let k = c.args.node.0 in
-    let t = class_there tree k c.requires.class in
+    let t = class_there tree k c.requires in
     let own : c.upper_into.new.out ≡ (record_at tree k).cell
     = sym (cell_of tree k c.upper_into.new.out c.upper_into.ensures.cell) in
     let total : agg_in c.unwrap-total.result ≡ agg (eq_by_cmp nat_cmp) source.measures source.rows

@@ -11,13 +11,14 @@ use Rattle.quotient_lattice.proofs.classes.classes_alone.Goals as goal
 pub nodes-preserved : goal.nodes-preserved
 nodes-preserved g c = λ source h.
     map_more hit_in (λ (node : NodeNo). lattice.class_alone nat_cmp source.measures source.rows
-    (record_at (g.T.Nodes.tree c.args.tree.now) node.0).cell)
+    (record_at c.of-tree.result.tree node.0).cell)
     c.nodes.classes.items c.push.new.self.items c.class_alone-class.result c.args.nodes.now c.nodes.node-index _
     (omega arith) (search rules) (c.nodes.invariant source h) (c.class_alone-class.ensures source h)
 
 pub returns : goal.returns
-returns g c = λ source h. rw (take_all c.nodes.node-index c.args.nodes.now (omega arith)) at
-    (c.nodes.invariant source h)
+returns g c =
+    let told = rw (c.of-tree.ensures.width, c.of-tree.ensures.tree) at c.nodes.invariant in
+    λ source h. rw (take_all c.nodes.node-index c.args.nodes.now (omega arith)) at (told source h)
 
-pub class_alone-class-requires-clause-class : goal.class_alone-class-requires-clause-class
-class_alone-class-requires-clause-class g c = c.requires.classes c.nodes.node-index _ (omega arith)
+pub class_alone-class-requires : goal.class_alone-class-requires
+class_alone-class-requires g c = rw c.of-tree.ensures.tree (c.requires.classes c.nodes.node-index _ (omega arith))

@@ -9,7 +9,7 @@ use Rattle.quotient_lattice.proofs.classes.classes_alone.Given as goal
 
 abbrev pub invariant-nodes : goal.invariant-nodes
 invariant-nodes g l =
-    (source : TreeRows) → IsTreeOf (g.T.Nodes.width l.tree) (g.T.Nodes.tree l.tree) source
+    (source : TreeRows) → IsTreeOf l.tree.width l.tree.tree source
     → map hit_in l.classes.items
     ≡ map (λ (node : NodeNo). lattice.class_alone nat_cmp source.measures source.rows
-    (record_at (g.T.Nodes.tree l.tree) node.0).cell) (take l.node-index l.nodes)
+    (record_at l.tree.tree node.0).cell) (take l.node-index l.nodes)

@@ -18,6 +18,8 @@ use Rattle.quotient_lattice.proofs.downward.children.Goals as goal
 
 pub returns-in-Ok-sort-clause-nodes : goal.returns-in-Ok-sort-clause-nodes
 returns-in-Ok-sort-clause-nodes g c = λ source h known.
+    let cells = rw c.of-tree.ensures.tree at c.in-Ok.ensures.cells in
+    let each = rw (c.of-tree.ensures.width, c.of-tree.ensures.tree) at c.in-Ok.ensures.each in
     let tree = g.T.Nodes.tree c.args.tree.now in
     let n = g.T.Nodes.width c.args.tree.now in
     let dict = c.args.dict.now in
@@ -27,8 +29,8 @@ returns-in-Ok-sort-clause-nodes g c = λ source h known.
     let own = own_closure _ _ source h c.args.node.0 u (cell_there tree c.args.node.0 t) c.requires.class in
     IfOk-weaker c.nodes_alone.result _ _
     (λ nodes are. nodes_told n tree source h (λ d. lattice.is_parent nat_cmp source.rows u d) c.in-Ok.found.items
-    c.sort.new.found.items nodes.items c.in-Ok.ensures.cells c.in-Ok.ensures.once c.in-Ok-sort.ensures.same are
-    (c.in-Ok.ensures.each source h)
+    c.sort.new.found.items nodes.items cells c.in-Ok.ensures.once c.in-Ok-sort.ensures.same are
+    (each source h)
     dict c.dims-dims.ensures.dictionary known c.requires.dims
     (λ d. lattice.is_parent text_cmp (decoded_row_list dict.lists source.rows)
     (coded_cell (text_in dict.lists) 0 u) d)
@@ -42,12 +44,14 @@ returns-in-Ok-sort-clause-nodes g c = λ source h known.
 
 pub returns-in-Ok-sort-clause-classes : goal.returns-in-Ok-sort-clause-classes
 returns-in-Ok-sort-clause-classes g c =
+    let cells = rw c.of-tree.ensures.tree at c.in-Ok.ensures.cells in
+    let each = rw (c.of-tree.ensures.width, c.of-tree.ensures.tree) at c.in-Ok.ensures.each in
     let source = c.requires.tree.0 in
     let h = c.requires.tree.1 in
     let tree = g.T.Nodes.tree c.args.tree.now in
     IfOk-weaker c.nodes_alone.result _ _
     (λ nodes are. nodes_are_classes _ tree source h
     (λ d. lattice.is_parent nat_cmp source.rows (record_at tree c.args.node.0).cell d) c.in-Ok.found.items
-    c.sort.new.found.items nodes.items c.in-Ok.ensures.cells c.in-Ok.ensures.once c.in-Ok-sort.ensures.same are
-    (c.in-Ok.ensures.each source h))
+    c.sort.new.found.items nodes.items cells c.in-Ok.ensures.once c.in-Ok-sort.ensures.same are
+    (each source h))
     c.nodes_alone.ensures

@@ -17,7 +17,7 @@ pub led-init : goal.led-init
 led-init g c = record {
   more = λ l. refl;
   few = omega arith;
-  each = none_picked (g.T.Nodes.tree c.args.tree.now) c.args.values c.args.led.now.items c.new-found.result.items
+  each = none_picked c.args.tree.now.tree c.args.values c.args.led.now.items c.new-found.result.items
       c.new-found.ensures.items;
   once = once_none c.new-found.result.items c.new-found.ensures.items;
   cells = λ k d l. absurd (omega (arith, l, ap length c.new-found.ensures.items));
@@ -26,7 +26,7 @@ led-init g c = record {
 
 pub led-preserved : goal.led-preserved
 led-preserved g c =
-    let tree = g.T.Nodes.tree c.args.tree.now in
+    let tree = c.args.tree.now.tree in
     let xs = c.args.led.now.items in
     let i = c.led.i in
     let ps = map number_of c.led.found.items in
@@ -69,13 +69,13 @@ pub returns-in-Err-clause-steps : goal.returns-in-Err-clause-steps
 returns-in-Err-clause-steps g c =
     let inv = c.led.invariant in
     let within : c.led.i + 1 ≤ length c.args.led.now.items = omega (arith, c.led-test.true, c.len-i-end.ensures) in
-    let cost : c.push_child.new.steps ≤ c.args.steps.now + (c.led.i + 1) * (2 * g.T.Nodes.width c.args.tree.now + 2)
+    let cost : c.push_child.new.steps ≤ c.args.steps.now + (c.led.i + 1) * (2 * c.args.tree.now.width + 2)
     = omega (arith, c.in-Err.ensures.steps, inv.steps) in
-    steps_all (c.led.i + 1) (length c.args.led.now.items) (2 * g.T.Nodes.width c.args.tree.now + 2)
+    steps_all (c.led.i + 1) (length c.args.led.now.items) (2 * c.args.tree.now.width + 2)
     c.push_child.new.steps c.args.steps.now within cost
 
 pub returns-clause-steps : goal.returns-clause-steps
 returns-clause-steps g c =
     let within : c.led.i ≤ length c.args.led.now.items = omega (arith, c.led.auto.i-end, c.len-i-end.ensures) in
-    steps_all c.led.i (length c.args.led.now.items) (2 * g.T.Nodes.width c.args.tree.now + 2) c.led.steps
+    steps_all c.led.i (length c.args.led.now.items) (2 * c.args.tree.now.width + 2) c.led.steps
     c.args.steps.now within c.led.invariant.steps

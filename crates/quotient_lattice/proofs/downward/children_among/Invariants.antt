@@ -9,8 +9,8 @@ abbrev pub invariant-led : goal.invariant-led
 invariant-led g l = record {
   more : l.i < length l.led.items → l.more ≡ times (get_or l.led.items l.i 0) (take l.i l.led.items);
   few : l.more ≤ l.i;
-  each : (k : ℕ) → Among k (map number_of l.found.items) ↔ IsPicked (g.T.Nodes.tree l.tree) l.values l.led.items l.i k;
+  each : (k : ℕ) → Among k (map number_of l.found.items) ↔ IsPicked l.tree.tree l.values l.led.items l.i k;
   once : IsDistinct nat_eq (map number_of l.found.items);
-  cells : AreAt (g.T.Nodes.tree l.tree) l.found.items;
-  steps : l.steps ≤ l.fn.steps + l.i * (2 * g.T.Nodes.width l.tree + 2);
+  cells : AreAt l.tree.tree l.found.items;
+  steps : l.steps ≤ l.fn.steps + l.i * (2 * l.tree.width + 2);
 }

@@ -16,13 +16,13 @@ use Rattle.quotient_lattice.proofs.downward.found_children.Goals as goal
 
 pub children_among-requires-clause-there : goal.children_among-requires-clause-there
 children_among-requires-clause-there g c =
-    All-permutation (λ k. IsSome (numbers.get (g.T.Nodes.tree c.args.tree.now) k)) c.in-Ok.led.items
+    All-permutation (λ k. IsSome (numbers.get c.args.tree.now.tree k)) c.in-Ok.led.items
     c.sort_unstable.new.self.items c.sort_unstable.ensures.permutation c.in-Ok.ensures.there
 
 pub returns-clause-each : goal.returns-clause-each
 returns-clause-each g c = λ source h.
-    let tree = g.T.Nodes.tree c.args.tree.now in
-    let n = g.T.Nodes.width c.args.tree.now in
+    let tree = c.args.tree.now.tree in
+    let n = c.args.tree.now.width in
     let u = c.upper_into.new.out in
     let own = own_closure _ _ source h c.args.node.0 u c.upper_into.ensures.cell c.requires.class in
     let wide : length u ≡ n = omega (arith, c.upper_into.ensures.dims, c.any-u.ensures.dims, c.dims.ensures.value) in

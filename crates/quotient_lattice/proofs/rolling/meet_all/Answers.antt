@@ -21,7 +21,7 @@ ok_gives (Err x) e p = absurd (true≢false e)
 
 pub seen-init : goal.seen-init
 seen-init g c =
-    let tree = g.T.Nodes.tree c.args.tree.now in
+    let tree = c.args.tree.now.tree in
     let keys = c.insert.new.self.keys in
     let is : keys ≡ c.args.node.0 ∷ [] = ok_gives c.insert.result (sym c.if-is_err.ensures.value) c.insert.ensures.keys
     ∙ ap (λ ks. insert_key nat_eq ks c.args.node.0) c.requires.none_seen in
@@ -46,8 +46,8 @@ visit-requires-clause-class g c =
 
 pub seen-preserved : goal.seen-preserved
 seen-preserved g c =
-    let tree = g.T.Nodes.tree c.args.tree.now in
-    let n = g.T.Nodes.width c.args.tree.now in
+    let tree = c.args.tree.now.tree in
+    let n = c.args.tree.now.width in
     let ask = c.args.ask.now in
     let seen = c.seen.seen.keys in
     let after = c.visit.new.seen.keys in
@@ -78,7 +78,7 @@ seen-preserved g c =
 
 pub returns-clause-met : goal.returns-clause-met
 returns-clause-met g c = λ source h.
-    let tree = g.T.Nodes.tree c.args.tree.now in
+    let tree = c.args.tree.now.tree in
     let seen = c.seen.seen.keys in
     let met = map number_of c.seen.met.items in
     let end : c.seen.i ≡ length seen = omega (arith, c.seen-test.false, c.len.ensures.len, c.seen.invariant.within) in

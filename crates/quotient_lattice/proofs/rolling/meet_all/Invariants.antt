@@ -11,12 +11,12 @@ invariant-seen g l = record {
   within : l.i ≤ length l.seen.keys;
   first : Among l.fn.node.0 l.seen.keys;
   apart : IsDistinct nat_eq l.seen.keys;
-  seen : (source : TreeRows) → IsTreeOf (g.T.Nodes.width l.tree) (g.T.Nodes.tree l.tree) source
-      → AreQueued (g.T.Nodes.tree l.tree) source l.ask l.fn.node.0 l.seen.keys l.i;
+  seen : (source : TreeRows) → IsTreeOf l.tree.width l.tree.tree source
+      → AreQueued l.tree.tree source l.ask l.fn.node.0 l.seen.keys l.i;
   each : (k : ℕ) → Among k (map number_of l.met.items)
-      ↔ (Among k (take l.i l.seen.keys) × (wants (g.T.Nodes.tree l.tree) l.ask k ≡ true));
+      ↔ (Among k (take l.i l.seen.keys) × (wants l.tree.tree l.ask k ≡ true));
   once : IsDistinct nat_eq (map number_of l.met.items);
-  cells : AreAt (g.T.Nodes.tree l.tree) l.met.items;
+  cells : AreAt l.tree.tree l.met.items;
 }
 
 abbrev pub decreases-seen : goal.decreases-seen

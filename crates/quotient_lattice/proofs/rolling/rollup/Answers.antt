@@ -20,11 +20,15 @@ use Rattle.quotient_lattice.proofs.rolling.rollup.Goals as goal
 
 pub most_general_of-requires : goal.most_general_of-requires
 most_general_of-requires g c =
+    let cells = rw c.of-tree.ensures.tree at c.in-Ok.ensures.cells in
+    let met = rw (c.of-tree.ensures.width, c.of-tree.ensures.tree) at c.in-Ok.ensures.met in
     all_wide _ _ c.requires.tree.0 c.requires.tree.1 c.args.ask.now c.args.node.0 c.in-Ok.met.items
-    c.in-Ok.ensures.cells (c.in-Ok.ensures.met c.requires.tree.0 c.requires.tree.1)
+    cells (met c.requires.tree.0 c.requires.tree.1)
 
 pub returns-in-Ok-sort-clause-nodes : goal.returns-in-Ok-sort-clause-nodes
 returns-in-Ok-sort-clause-nodes g c = λ source h known.
+    let cells = rw c.of-tree.ensures.tree at c.in-Ok.ensures.cells in
+    let met = rw (c.of-tree.ensures.width, c.of-tree.ensures.tree) at c.in-Ok.ensures.met in
     let tree = g.T.Nodes.tree c.args.tree.now in
     let n = g.T.Nodes.width c.args.tree.now in
     let dict = c.args.dict.now in
@@ -34,8 +38,8 @@ returns-in-Ok-sort-clause-nodes g c = λ source h known.
     let long = wide n tree source h c.args.node.0 t in
     let own = own_closure _ _ source h c.args.node.0 u (cell_there tree c.args.node.0 t) c.requires.class in
     let kept = c.in-Ok-most_general_of.kept.items in
-    let low = lowest_kept n tree source h c.args.ask.now c.args.node.0 c.in-Ok.met.items c.in-Ok.ensures.cells
-    (c.in-Ok.ensures.met source h) kept c.in-Ok-most_general_of.ensures c.in-Ok.ensures.once in
+    let low = lowest_kept n tree source h c.args.ask.now c.args.node.0 c.in-Ok.met.items cells
+    (met source h) kept c.in-Ok-most_general_of.ensures c.in-Ok.ensures.once in
     IfOk-weaker c.nodes_alone.result _ _
     (λ nodes are. nodes_told n tree source h (lattice.is_rolled nat_cmp source.measures source.rows ask u) kept
     c.sort.new.found.items nodes.items low.0 low.1 c.in-Ok-sort.ensures.same are low.2
@@ -53,6 +57,8 @@ returns-in-Ok-sort-clause-nodes g c = λ source h known.
 
 pub returns-in-Ok-sort-clause-classes : goal.returns-in-Ok-sort-clause-classes
 returns-in-Ok-sort-clause-classes g c =
+    let cells = rw c.of-tree.ensures.tree at c.in-Ok.ensures.cells in
+    let met = rw (c.of-tree.ensures.width, c.of-tree.ensures.tree) at c.in-Ok.ensures.met in
     let source = c.requires.tree.0 in
     let h = c.requires.tree.1 in
     let tree = g.T.Nodes.tree c.args.tree.now in
@@ -60,8 +66,8 @@ returns-in-Ok-sort-clause-classes g c =
     let ask = ask_in c.args.ask.now in
     let u = (record_at tree c.args.node.0).cell in
     let kept = c.in-Ok-most_general_of.kept.items in
-    let low = lowest_kept n tree source h c.args.ask.now c.args.node.0 c.in-Ok.met.items c.in-Ok.ensures.cells
-    (c.in-Ok.ensures.met source h) kept c.in-Ok-most_general_of.ensures c.in-Ok.ensures.once in
+    let low = lowest_kept n tree source h c.args.ask.now c.args.node.0 c.in-Ok.met.items cells
+    (met source h) kept c.in-Ok-most_general_of.ensures c.in-Ok.ensures.once in
     IfOk-weaker c.nodes_alone.result _ _
     (λ nodes are. nodes_are_classes n tree source h (lattice.is_rolled nat_cmp source.measures source.rows ask u) kept
     c.sort.new.found.items nodes.items low.0 low.1 c.in-Ok-sort.ensures.same are low.2)

@@ -29,9 +29,3 @@ returns-in-Ok-clause-visited g c = λ source h.
       );
     })
     c.insert_each.ensures
-
-pub push_placed-requires-clause-tree : goal.push_placed-requires-clause-tree
-push_placed-requires-clause-tree g c = (c.requires.measure.0, c.requires.measure.1)
-
-pub found_children-requires-clause-tree : goal.found_children-requires-clause-tree
-found_children-requires-clause-tree g c = (c.requires.measure.0, c.requires.measure.1)

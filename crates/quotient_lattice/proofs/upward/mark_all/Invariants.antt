@@ -8,7 +8,7 @@ abbrev pub invariant-numbers : goal.invariant-numbers
 invariant-numbers g l = record {
   room : 2 ^ l.upper.values ≤ length l.marks;
   dims : length l.cell ≡ length l.upper.cell.now;
-  below : (source : TreeRows) → IsTreeOf (g.T.Nodes.width l.upper.tree.now) (g.T.Nodes.tree l.upper.tree.now) source →
+  below : (source : TreeRows) → IsTreeOf l.upper.tree.now.width l.upper.tree.now.tree source →
       IsMarkedBefore source l.upper.cell.now l.marks l.m;
   above : (j : ℕ) → l.m ≤ j → is_marked l.marks j ≡ false;
   steps : l.steps ≤ l.fn.steps + (l.upper.values + l.m) * (2 * length l.upper.cell.now + 2);

@@ -12,7 +12,7 @@ pub numbers-preserved : goal.numbers-preserved
 numbers-preserved g c = record {
   nodes = λ source h.
       let upper = c.args.upper.now in
-      nodes_more (λ k. cell_at (g.T.Nodes.tree upper.tree.now) k.0) upper.cell.now
+      nodes_more (λ k. cell_at upper.tree.now.tree k.0) upper.cell.now
       (joins source upper.cell.now) c.numbers.m
       c.numbers.nodes.items c.push_some.new.nodes.items c.parent_at-node.result
       c.in-Ok.ensures (c.numbers.invariant.nodes source h) (c.parent_at-node.ensures.value source h);

@@ -8,8 +8,8 @@ use Rattle.quotient_lattice.proofs.upward.parents_by_marks.Given as goal
 
 abbrev pub invariant-numbers : goal.invariant-numbers
 invariant-numbers g l = record {
-  nodes : (source : TreeRows) → IsTreeOf (g.T.Nodes.width l.upper.tree.now) (g.T.Nodes.tree l.upper.tree.now) source →
-      map (λ k. cell_at (g.T.Nodes.tree l.upper.tree.now) k.0) l.nodes.items
+  nodes : (source : TreeRows) → IsTreeOf l.upper.tree.now.width l.upper.tree.now.tree source →
+      map (λ k. cell_at l.upper.tree.now.tree k.0) l.nodes.items
       ≡ map (λ m. Some (cell_of_number l.upper.cell.now m))
       (filter (joins source l.upper.cell.now) (range_with_len 0 l.m));
   steps : l.steps ≤ l.fn.steps + l.m * (2 * length l.upper.cell.now + 2);

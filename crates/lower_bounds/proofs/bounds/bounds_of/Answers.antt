@@ -3,8 +3,8 @@ use Rattle.std.specs.List.{range_with_len}
 use Rattle.std.proofs.lemmas.Nat.{one_shl}
 use Rattle.cells_below.specs.Closed.{bounds}
 use Rattle.cells_below.specs.Numbers.{cell_of_number}
-use Rattle.cells_below.proofs.CallerLemmas.{bounds_are, cells_more, kept_same, one_more, upper_wide}
-use Rattle.lower_bounds.proofs.bounds.bounds_of_cell.Goals as goal
+use Rattle.cells_below.proofs.CallerLemmas.{bounds_are, cells_more, kept_same, one_more}
+use Rattle.lower_bounds.proofs.bounds.bounds_of.Goals as goal
 
 pub numbers-preserved : goal.numbers-preserved
 numbers-preserved g c = record {
@@ -12,13 +12,12 @@ numbers-preserved g c = record {
   dims = c.bounds_at-keep.ensures.dims;
   below = c.bounds_at-keep.ensures.below;
   above = c.bounds_at-keep.ensures.above;
-  cells = λ source h.
+  cells = λ source h. let u = c.args.upper.now.cell.now in
       c.in_ok-push_if.ensures
       ∙ ap₂ (λ cells more. cells ++ more) (c.numbers.invariant.cells source h)
-      (kept_same c.bounds_at-keep.result (bounds source c.args.u.now c.numbers.m) c.bounds_at-keep.new.cell
-      (cell_of_number c.args.u.now c.numbers.m) (c.bounds_at-keep.ensures.value source h)
-      c.bounds_at-keep.ensures.cell)
-      ∙ cells_more c.args.u.now (bounds source c.args.u.now) c.numbers.m;
+      (kept_same c.bounds_at-keep.result (bounds source u c.numbers.m) c.bounds_at-keep.new.cell
+      (cell_of_number u c.numbers.m) (c.bounds_at-keep.ensures.value source h) c.bounds_at-keep.ensures.cell)
+      ∙ cells_more u (bounds source u) c.numbers.m;
   few = omega (
     arith,
     ap length c.in_ok-push_if.ensures,
@@ -30,10 +29,10 @@ numbers-preserved g c = record {
 
 pub returns-clause-bounds : goal.returns-clause-bounds
 returns-clause-bounds g c = λ source h.
-    let end : c.numbers.m ≡ 2 ^ c.count_values-d.result
-    = omega (arith, one_shl c.count_values-d.result 32 (omega arith)) in
+    let upper = c.args.upper.now in
+    let u = upper.cell.now in
+    let end : c.numbers.m ≡ 2 ^ upper.values = omega (arith, one_shl upper.values 32 (omega arith)) in
     c.numbers.invariant.cells source h
-    ∙ ap (λ n. map (cell_of_number c.args.u.now) (filter (bounds source c.args.u.now) (range_with_len 0 n))) (end
-    ∙ ap (λ d. 2 ^ d) c.count_values-d.ensures.value)
-    ∙ bounds_are source c.args.u.now _ h.wide
-    (upper_wide _ _ c.args.node.0 c.args.u.now c.requires.upper c.requires.tree)
+    ∙ ap (λ n. map (cell_of_number u) (filter (bounds source u) (range_with_len 0 n))) (end
+    ∙ ap (λ d. 2 ^ d) upper.counted)
+    ∙ bounds_are source u _ h.wide upper.long
