@@ -1,26 +1,24 @@
 -- The loader reads the generated files without a fault.
-use Rattle.std.proofs.Common.{◌≡◌, ◌∙◌, ℕ, zero, suc, ◌+◌, ◌*◌, ◌^◌, ◌<◌, ◌≤◌, List, [], ◌∷◌, ◌++◌, length, refl, ap, ap₂, arith}
+use Rattle.std.proofs.Common.{◌≡◌, ◌∙◌, ℕ, zero, suc, ◌+◌, ◌*◌, ◌^◌, ◌<◌, ◌≤◌, List, [], ◌∷◌, ◌++◌, refl, ap, ap₂, arith}
 use Rattle.std.proofs.Common.{append_assoc, decimal, true, false, ℤ, nat_abs, Some}
-use Rattle.std.specs.Prelude.{Ok, Result, Bool, codes}
-use Rattle.std.specs.List.{list_all}
+use Rattle.std.specs.Prelude.{Ok, codes}
 use Rattle.std.specs.Str.{is_utf8, chars}
 use Rattle.std.proofs.lemmas.Nat.{mul-le}
 use Rattle.csv.specs.Reading.{default_config, records}
 use Rattle.aggregates.specs.Numbers.{amount_in, id_in}
 use Rattle.aggregates.specs.Texts.{amount_text}
-use Rattle.cube_defs.specs.Rows.{Row}
 use Rattle.cube_defs.specs.Text.{Text}
 use Rattle.cube_defs.specs.declared.limits.TheConstants.{MAX_AMOUNT, MAX_ROWS}
 use Rattle.csv_load.specs.Batch.{Change, Delete, Insert}
-use Rattle.csv_load.specs.Faults.{Fault, cons_ok}
-use Rattle.csv_load.specs.Files.{base_in, batch_in, change_in, changes_from, changes_of, is_short}
+use Rattle.csv_load.specs.Faults.{cons_ok}
+use Rattle.csv_load.specs.Files.{base_in, batch_in, change_in, changes_from, changes_of}
 use Rattle.text_lines.proofs.CallerLemmas.{line-record, no-records}
-use Rattle.row_generator.specs.Drawn.{base_changes, batch_changes, deletions, drawn_row, drawn_rows, drawn_tuple, insertions, layout}
+use Rattle.row_generator.specs.Drawn.{base_changes, batch_changes, deletions, drawn_row, drawn_rows, insertions, layout}
 use Rattle.row_generator.specs.Generator.{after_draws, amount_of, base_text, batch_rows, batch_text, deletion_text, deletions_text}
-use Rattle.row_generator.specs.Generator.{drawn_value, oldest_id, row_text, rows_text}
+use Rattle.row_generator.specs.Generator.{oldest_id, rows_text}
 use Rattle.row_generator.specs.declared.files.TheConstants.{BATCHES}
 use Rattle.row_generator.proofs.Fields.{IsField, amount-small}
-use Rattle.row_generator.proofs.Records.{AreFields, base-record, batch-record, deletion-record, drawn-fields, empty_fields, row_fields}
+use Rattle.row_generator.proofs.Records.{base-record, batch-record, deletion-record, drawn-fields, empty_fields, row_fields}
 
 -- the places of the needed columns
 abbrev base_places : List ℕ

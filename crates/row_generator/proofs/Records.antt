@@ -1,5 +1,5 @@
 -- The records of the generated files.
-use Rattle.std.proofs.Common.{◌≡◌, ◌∙◌, ℕ, zero, suc, ◌+◌, ◌*◌, ◌^◌, ◌<◌, ◌≤◌, List, [], ◌∷◌, ◌++◌, length, refl, sym, ap, arith, true}
+use Rattle.std.proofs.Common.{◌≡◌, ◌∙◌, ℕ, ◌+◌, ◌^◌, ◌<◌, List, [], ◌∷◌, ◌++◌, length, refl, sym, ap, arith, true}
 use Rattle.std.proofs.Common.{append_assoc, append-nil, decimal}
 use Rattle.std.specs.Prelude.{codes}
 use Rattle.std.specs.List.{list_all}
@@ -10,7 +10,7 @@ use Rattle.aggregates.specs.Texts.{amount_text}
 use Rattle.cube_defs.specs.Text.{Text}
 use Rattle.text_lines.proofs.CallerLemmas.{after_commas, is_bare, line-record}
 use Rattle.row_generator.specs.Drawn.{drawn_tuple}
-use Rattle.row_generator.specs.Generator.{after_draws, amount_of, deletion_text, deletions_text, drawn_value, row_text, rows_text}
+use Rattle.row_generator.specs.Generator.{after_draws, amount_of, deletion_text, drawn_value, row_text}
 use Rattle.row_generator.proofs.Fields.{IsField, amount-bare, amount-small, decimal-bare, drawn-field}
 
 -- the fields of a row after its id
