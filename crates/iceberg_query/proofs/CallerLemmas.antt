@@ -1,4 +1,5 @@
 -- The lemmas that other crates cite.
+pub use Rattle.iceberg_query.proofs.Measured.{are_measured, measure_read}
 pub use Rattle.iceberg_query.proofs.Measures.{class_agg, there_is_measure, wanted_is}
 pub use Rattle.iceberg_query.proofs.Bounded.{class_there}
 pub use Rattle.iceberg_query.proofs.Sorted.{among_permutation, flips, once_permutation, sorted_rises}

@@ -1,5 +1,6 @@
 pub mod Walked
 pub mod Measures
+pub mod Measured
 pub mod Reached
 pub mod DistinctClasses
 pub mod Ordered

@@ -20,46 +20,50 @@ use crate::hits::{values_at, without_values};
 use crate::indexed::indexed_nodes;
 use crate::order::sort;
 use crate::pick::pick_descendants;
-use crate::{Ask, ClassHit, Memory};
+use crate::{Ask, ClassHit, Memory, Selection};
 use cell_core::{NodeNo, Steps};
 use measure_index::Index;
 use qc_arena::Nodes;
 use std::alloc::Global;
 use std::sync::ledger::Ledger;
+use tree_search::CanonicalTree;
 use value_dict::Dict;
 
 // The classes of some nodes in order.
 fn in_order<T: Nodes, L: Ledger>(
     alloc: Global,
-    tree: &T,
+    selection: &Selection<T>,
     dict: &Dict,
-    ask: &Ask,
     nodes: &[NodeNo],
     steps: &mut Steps<L>,
 ) -> Result<Vec<ClassHit>, Memory>
-    requires dims { length dict.now.lists ≡ T.width tree.now }
+    requires dims { length dict.now.lists ≡ selection.now.tree.now.width }
     requires dictionary { IsDictionary dict.now }
-    requires picked { ArePicked (T.tree tree.now) ask.now (numbers nodes.now) }
-    requires measure { HasMeasure (T.width tree.now) (T.tree tree.now) ask.now.kind }
-    ensures classes { (source : TreeRows) → IsTreeOf (T.width tree.now) (T.tree tree.now) source
+    requires picked { ArePicked selection.now.tree.now.tree selection.now.ask.now
+        (numbers nodes.now) }
+    ensures classes { (source : TreeRows) →
+        IsTreeOf selection.now.tree.now.width selection.now.tree.now.tree source
         → RowsAreKnown (has_code dict.now.lists) source.rows →
         IfOk result (λ classes. decoded_classes dict.now.lists classes.items
         ≡ answers.iceberg text_cmp source.measures (decoded_row_list dict.now.lists source.rows)
-        (ask_in ask.now)) }
-    ensures told { (source : TreeRows) → IsTreeOf (T.width tree.now) (T.tree tree.now) source
+        (ask_in selection.now.ask.now)) }
+    ensures told { (source : TreeRows) →
+        IsTreeOf selection.now.tree.now.width selection.now.tree.now.tree source
         → RowsAreKnown (has_code dict.now.lists) source.rows →
         IfOk result (λ classes. All
         (λ class. IsDecodableClass dict.now.lists source.measures (hit_in class))
         classes.items) }
     ensures count { IfOk result (λ classes. length classes.items ≡ length nodes.now) }
     ensures steps { steps.new ≤ steps.old
-        + length nodes.now * (32 * (T.width tree.now + 1) ^ 2 * 2 ^ T.width tree.now) }
+        + length nodes.now * (32 * (selection.now.tree.now.width + 1) ^ 2
+        * 2 ^ selection.now.tree.now.width) }
 {
-    let mut values = match values_at(alloc, tree, ask, nodes, steps) {
+    let _dims = selection.tree.dims();
+    let mut values = match values_at(alloc, selection, nodes, steps) {
         Ok(values) => values,
         Err(error) => return Err(error),
     };
-    match sort(dict, ask.bound, &mut values) {
+    match sort(dict, selection.ask.bound, &mut values) {
         Ok(()) => without_values(alloc, values),
         Err(error) => Err(error),
     }
@@ -68,18 +72,19 @@ fn in_order<T: Nodes, L: Ledger>(
 // The nodes of the classes that pass.
 fn picked<T: Nodes, L: Ledger>(
     alloc: Global,
-    tree: &T,
-    ask: &Ask,
+    selection: &Selection<T>,
     steps: &mut Steps<L>,
 ) -> Result<Vec<NodeNo>, Memory>
-    requires measure { HasMeasure (T.width tree.now) (T.tree tree.now) ask.now.kind }
-    ensures { IfOk result (λ nodes. ArePicked (T.tree tree.now) ask.now (numbers nodes.items)) }
+    ensures { IfOk result (λ nodes. ArePicked selection.now.tree.now.tree selection.now.ask.now
+        (numbers nodes.items)) }
 {
     let mut nodes = Vec::new(alloc);
+    let tree = selection.tree;
+    let dims = tree.dims();
     let Some(root) = tree.root(steps) else {
         return Ok(nodes);
     };
-    match pick_descendants(tree, ask, root, tree.dims(), &mut nodes, steps) {
+    match pick_descendants(selection, root, dims, &mut nodes, steps) {
         Ok(()) => Ok(nodes),
         Err(error) => Err(error),
     }
@@ -88,22 +93,23 @@ fn picked<T: Nodes, L: Ledger>(
 // The nodes of the classes that pass, from the index if it has the kind.
 fn nodes_of<T: Nodes, L: Ledger>(
     alloc: Global,
-    tree: &T,
+    selection: &Selection<T>,
     index: &Index,
-    ask: &Ask,
     steps: &mut Steps<L>,
 ) -> Result<Vec<NodeNo>, Memory>
-    requires index { IsIndex (class_of_node (T.tree tree.now)) index.now }
-    requires unit { IfSome (ranking_of ask.now.kind index.now) (λ r. r.scale ≡ ask.now.scale) }
-    requires measure { HasMeasure (T.width tree.now) (T.tree tree.now) ask.now.kind }
+    requires index { IsIndex (class_of_node selection.now.tree.now.tree) index.now }
+    requires unit { IfSome (ranking_of selection.now.ask.now.kind index.now)
+        (λ r. r.scale ≡ selection.now.ask.now.scale) }
     ensures picked { IfOk result
-        (λ nodes. ArePicked (T.tree tree.now) ask.now (numbers nodes.items)) }
-    ensures steps { IsSome (ranking_of ask.now.kind index.now) → steps.new ≡ steps.old }
+        (λ nodes. ArePicked selection.now.tree.now.tree selection.now.ask.now
+        (numbers nodes.items)) }
+    ensures steps { IsSome (ranking_of selection.now.ask.now.kind index.now)
+        → steps.new ≡ steps.old }
 {
-    if index.has(ask.kind) {
-        indexed_nodes(alloc, index, ask)
+    if index.has(selection.ask.kind) {
+        indexed_nodes(alloc, index, selection.ask)
     } else {
-        picked(alloc, tree, ask, steps)
+        picked(alloc, selection, steps)
     }
 }
 
@@ -142,8 +148,10 @@ pub fn iceberg<T: Nodes, L: Ledger>(
         + length classes.items * (32 * (T.width tree.now + 1) ^ 2 * 2 ^ T.width tree.now)) }
 {
     let _dims = dict.dims();
-    match nodes_of(alloc, tree, index, ask, steps) {
-        Ok(nodes) => in_order(alloc, tree, dict, ask, &nodes, steps),
+    let tree = CanonicalTree::of(tree);
+    let selection = Selection { tree: &tree, ask };
+    match nodes_of(alloc, &selection, index, steps) {
+        Ok(nodes) => in_order(alloc, &selection, dict, &nodes, steps),
         Err(error) => Err(error),
     }
 }

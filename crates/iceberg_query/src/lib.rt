@@ -9,9 +9,11 @@ mod order;
 mod passing;
 mod pick;
 mod reach;
+mod selection;
 
 pub use answer::iceberg;
 pub use ask::{Ask, Bound};
 pub use cube_defs::Memory;
 pub use lower_bounds::ClassHit;
 pub use passing::passes;
+pub use selection::Selection;

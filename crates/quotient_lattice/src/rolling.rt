@@ -22,7 +22,7 @@ use crate::Memory;
 use crate::downward::found_children;
 use crate::node_cells::{NodeCell, nodes_alone, sort};
 use cell_core::{Cell, NodeNo, Steps, leq};
-use iceberg_query::{Ask, passes};
+use iceberg_query::{Ask, Selection, passes};
 use indexmap::IndexSet;
 use qc_arena::Nodes;
 use std::alloc::{AllocError, Global};
@@ -31,18 +31,12 @@ use tree_search::CanonicalTree;
 use value_dict::Dict;
 
 // Whether the class of a node passes.
-fn wants<T: Nodes, L: Ledger>(
-    tree: &CanonicalTree<T>,
-    ask: &Ask,
-    node: NodeNo,
-    steps: &mut Steps<L>,
-) -> bool
-    requires class { IsSome (record_at tree.now.tree node.0).class }
-    requires measure { HasMeasure tree.now.width tree.now.tree ask.now.kind }
-    ensures { result ≡ visits.wants tree.now.tree ask.now node.0 }
+fn wants<T: Nodes, L: Ledger>(selection: &Selection<T>, node: NodeNo, steps: &mut Steps<L>) -> bool
+    requires { IsSome (record_at selection.now.tree.now.tree node.0).class }
+    ensures { result ≡ visits.wants selection.now.tree.now.tree selection.now.ask.now node.0 }
 {
-    let total = tree.class(node, steps).unwrap();
-    passes(ask, &total)
+    let total = selection.tree.class(node, steps).unwrap();
+    passes(selection.ask, &total)
 }
 
 // Inserts the numbers that are not there yet.
@@ -82,25 +76,25 @@ fn push_placed<T: Nodes, L: Ledger>(
 
 // Takes a class that passes; of another it looks at the children.
 fn visit<T: Nodes, L: Ledger>(
-    tree: &CanonicalTree<T>,
-    ask: &Ask,
+    selection: &Selection<T>,
     node: NodeNo,
     seen: &mut IndexSet<u32>,
     met: &mut Vec<NodeCell>,
     steps: &mut Steps<L>,
 ) -> Result<(), Memory>
-    requires class { IsSome (record_at tree.now.tree node.0).class }
-    requires measure { HasMeasure tree.now.width tree.now.tree ask.now.kind }
-    ensures visited { (source : TreeRows) → IsTreeOf tree.now.width tree.now.tree source →
-        OnOk result (IsVisited tree.now.tree source ask.now node.0 seen.old.keys seen.new.keys
+    requires { IsSome (record_at selection.now.tree.now.tree node.0).class }
+    ensures visited { (source : TreeRows) →
+        IsTreeOf selection.now.tree.now.width selection.now.tree.now.tree source →
+        OnOk result (IsVisited selection.now.tree.now.tree source selection.now.ask.now node.0
+        seen.old.keys seen.new.keys
         (mapped number_of met.old.items) (mapped number_of met.new.items)) }
-    ensures cells { AreAt tree.now.tree met.old.items
-        → OnOk result (AreAt tree.now.tree met.new.items) }
+    ensures cells { AreAt selection.now.tree.now.tree met.old.items
+        → OnOk result (AreAt selection.now.tree.now.tree met.new.items) }
 {
-    if wants(tree, ask, node, steps) {
-        return push_placed(tree, node, met, steps);
+    if wants(selection, node, steps) {
+        return push_placed(selection.tree, node, met, steps);
     }
-    match found_children(*met.allocator(), tree, node, steps) {
+    match found_children(*met.allocator(), selection.tree, node, steps) {
         Ok(found) => insert_each(seen, &found),
         Err(error) => Err(error),
     }
@@ -108,30 +102,30 @@ fn visit<T: Nodes, L: Ledger>(
 
 // Visits the class of each number that is seen, from the first one on. Each class is visited once.
 fn meet_all<T: Nodes, L: Ledger>(
-    tree: &CanonicalTree<T>,
-    ask: &Ask,
+    selection: &Selection<T>,
     node: NodeNo,
     seen: &mut IndexSet<u32>,
     met: &mut Vec<NodeCell>,
     steps: &mut Steps<L>,
 ) -> Result<(), Memory>
-    requires class { IsSome (record_at tree.now.tree node.0).class }
-    requires measure { HasMeasure tree.now.width tree.now.tree ask.now.kind }
+    requires class { IsSome (record_at selection.now.tree.now.tree node.0).class }
     requires none_seen { seen.old.keys ≡ [] }
     requires none_met { met.old.items ≡ [] }
-    ensures met { (source : TreeRows) → IsTreeOf tree.now.width tree.now.tree source →
-        OnOk result (AreMet tree.now.tree source ask.now node.0
+    ensures met { (source : TreeRows) →
+        IsTreeOf selection.now.tree.now.width selection.now.tree.now.tree source →
+        OnOk result (AreMet selection.now.tree.now.tree source selection.now.ask.now node.0
         (mapped number_of met.new.items)) }
     ensures once { OnOk result (IsDistinct nat_eq (mapped number_of met.new.items)) }
-    ensures cells { OnOk result (AreAt tree.now.tree met.new.items) }
+    ensures cells { OnOk result (AreAt selection.now.tree.now.tree met.new.items) }
 {
+    let _dims = selection.tree.dims();
     if seen.insert(node.0).is_err() {
         return Err(AllocError);
     }
     let mut i = 0;
     'seen: while i < seen.len() {
         let number = *seen.get_index(i).unwrap();
-        match visit(tree, ask, NodeNo(number), seen, met, steps) {
+        match visit(selection, NodeNo(number), seen, met, steps) {
             Ok(()) => {}
             Err(error) => return Err(error),
         }
@@ -143,22 +137,21 @@ fn meet_all<T: Nodes, L: Ledger>(
 // From a class on: all classes that pass and are met through the children of those that don't.
 fn met_from<T: Nodes, L: Ledger>(
     alloc: Global,
-    tree: &CanonicalTree<T>,
-    ask: &Ask,
+    selection: &Selection<T>,
     node: NodeNo,
     steps: &mut Steps<L>,
 ) -> Result<Vec<NodeCell>, Memory>
-    requires class { IsSome (record_at tree.now.tree node.0).class }
-    requires measure { HasMeasure tree.now.width tree.now.tree ask.now.kind }
-    ensures met { (source : TreeRows) → IsTreeOf tree.now.width tree.now.tree source →
-        IfOk result (λ met. AreMet tree.now.tree source ask.now node.0
+    requires { IsSome (record_at selection.now.tree.now.tree node.0).class }
+    ensures met { (source : TreeRows) →
+        IsTreeOf selection.now.tree.now.width selection.now.tree.now.tree source →
+        IfOk result (λ met. AreMet selection.now.tree.now.tree source selection.now.ask.now node.0
         (mapped number_of met.items)) }
     ensures once { IfOk result (λ met. IsDistinct nat_eq (mapped number_of met.items)) }
-    ensures cells { IfOk result (λ met. AreAt tree.now.tree met.items) }
+    ensures cells { IfOk result (λ met. AreAt selection.now.tree.now.tree met.items) }
 {
     let mut seen = IndexSet::new(alloc);
     let mut met = Vec::new(alloc);
-    match meet_all(tree, ask, node, &mut seen, &mut met, steps) {
+    match meet_all(selection, node, &mut seen, &mut met, steps) {
         Ok(()) => Ok(met),
         Err(error) => Err(error),
     }
@@ -227,7 +220,8 @@ pub fn rollup<T: Nodes, L: Ledger>(
 {
     let _dims = dict.dims();
     let tree = CanonicalTree::of(tree);
-    let met = match met_from(alloc, &tree, ask, node, steps) {
+    let selection = Selection { tree: &tree, ask };
+    let met = match met_from(alloc, &selection, node, steps) {
         Ok(met) => met,
         Err(error) => return Err(error),
     };

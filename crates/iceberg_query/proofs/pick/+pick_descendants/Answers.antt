@@ -6,30 +6,30 @@ use Rattle.iceberg_query.proofs.pick.+pick_descendants.Goals.{then-is_parent+in-
 
 pub is_parent-requires : goal.is_parent-requires
 is_parent-requires g t c
-    = target_there _ _ c.requires.measure.0 c.requires.measure.1 c.args.node.0 c.edges.k _ c.requires.node
+    = target_there _ _ c.dims-dims.ensures.rows.0 c.dims-dims.ensures.rows.1 c.args.node.0 c.edges.k _ c.requires
     c.edge_at-dim.ensures.value
 
 pub edges-preserved : goal.edges-preserved
 edges-preserved g t c = elim c.if-is_parent.branch [
   | then-is_parent+in-Ok w ↦
       ap (λ v. numbers v.items) w.picked-is
-      ∙ child_more _ c.args.ask.now c.args.node.0 (c.args.values - 1) (numbers c.args.picked.now.items)
+      ∙ child_more _ c.args.selection.now.ask.now c.args.node.0 (c.args.values - 1) (numbers c.args.picked.now.items)
       (numbers c.edges.picked.items) _ c.edges.k _ c.edge_at-dim.ensures.value c.edges.invariant
       (sym c.is_parent.ensures ∙ w.if-is_parent.true) w.in-Ok.ensures
   | else-is_parent w ↦
       ap (λ v. numbers v.items) w.picked-is
-      ∙ other_more _ c.args.ask.now c.args.node.0 (c.args.values - 1) (numbers c.args.picked.now.items)
+      ∙ other_more _ c.args.selection.now.ask.now c.args.node.0 (c.args.values - 1) (numbers c.args.picked.now.items)
       (numbers c.edges.picked.items) c.edges.k _ c.edge_at-dim.ensures.value c.edges.invariant
       (sym c.is_parent.ensures ∙ w.if-is_parent.false)
 ]
 
 pub returns : goal.returns
 returns g t c =
-    all_edges _ c.args.ask.now c.args.node.0 (c.args.values - 1) (numbers c.args.picked.now.items)
+    all_edges _ c.args.selection.now.ask.now c.args.node.0 (c.args.values - 1) (numbers c.args.picked.now.items)
     (numbers c.edges.picked.items) c.edges.k (omega (arith, c.edges-test.false, c.edge_count-k-end.ensures.value))
     c.edges.invariant
-    ∙ ap (λ ks. numbers c.args.picked.now.items ++ wanted (g.T.Nodes.tree c.args.tree.now) c.args.ask.now ks)
-    (sym (below_more (g.T.Nodes.tree c.args.tree.now) c.args.node.0 c.args.values (omega arith)))
+    ∙ ap (λ ks. numbers c.args.picked.now.items ++ wanted c.args.selection.now.tree.now.tree c.args.selection.now.ask.now ks)
+    (sym (below_more c.args.selection.now.tree.now.tree c.args.node.0 c.args.values (omega arith)))
 
 pub returns-in-Ok-false : goal.returns-in-Ok-false
 returns-in-Ok-false g t c =

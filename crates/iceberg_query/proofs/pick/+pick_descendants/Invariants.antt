@@ -8,6 +8,6 @@ abbrev pub decreases-pick_descendants : goal.decreases-pick_descendants
 decreases-pick_descendants g l = l.values
 
 abbrev pub invariant-edges : goal.invariant-edges
-invariant-edges g l = numbers l.picked.items ≡ numbers l.fn.picked.items ++ wanted (g.T.Nodes.tree l.tree) l.ask
-    (l.node.0 ∷ flat_map (from_edge (g.T.Nodes.tree l.tree) l.node.0 (l.values - 1))
-    (take l.k (record_at (g.T.Nodes.tree l.tree) l.node.0).edges))
+invariant-edges g l = numbers l.picked.items ≡ numbers l.fn.picked.items ++ wanted l.selection.tree.now.tree l.selection.ask.now
+    (l.node.0 ∷ flat_map (from_edge l.selection.tree.now.tree l.node.0 (l.values - 1))
+    (take l.k (record_at l.selection.tree.now.tree l.node.0).edges))

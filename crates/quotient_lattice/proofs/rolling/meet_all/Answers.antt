@@ -21,7 +21,7 @@ ok_gives (Err x) e p = absurd (true≢false e)
 
 pub seen-init : goal.seen-init
 seen-init g c =
-    let tree = c.args.tree.now.tree in
+    let tree = c.args.selection.now.tree.now.tree in
     let keys = c.insert.new.self.keys in
     let is : keys ≡ c.args.node.0 ∷ [] = ok_gives c.insert.result (sym c.if-is_err.ensures.value) c.insert.ensures.keys
     ∙ ap (λ ks. insert_key nat_eq ks c.args.node.0) c.requires.none_seen in
@@ -29,26 +29,26 @@ seen-init g c =
       within = omega arith;
       first = subst (Among c.args.node.0) (sym is) (inl refl);
       apart = alone keys c.args.node.0 is;
-      seen = λ source h. first_seen _ tree source h c.args.ask.now c.args.node.0 keys is c.requires.class;
-      each = none_met tree c.args.ask.now keys c.args.met.now.items c.requires.none_met;
+      seen = λ source h. first_seen _ tree source h c.args.selection.now.ask.now c.args.node.0 keys is c.requires.class;
+      each = none_met tree c.args.selection.now.ask.now keys c.args.met.now.items c.requires.none_met;
       once = once_none c.args.met.now.items c.requires.none_met;
       cells = λ k d l. absurd (omega (arith, l, ap length c.requires.none_met));
     }
 
-pub visit-requires-clause-class : goal.visit-requires-clause-class
-visit-requires-clause-class g c =
+pub visit-requires : goal.visit-requires
+visit-requires g c =
     let keys = c.seen.seen.keys in
     let at : slice_get keys c.seen.i ≡ Some c.unwrap-number.result.now = sym c.get_index.ensures.key
     ∙ ap option_copied c.unwrap-number.ensures in
-    let p = (c.seen.invariant.seen c.requires.measure.0 c.requires.measure.1).above c.unwrap-number.result.now
+    let p = (c.seen.invariant.seen c.dims-dims.ensures.rows.0 c.dims-dims.ensures.rows.1).above c.unwrap-number.result.now
     (get_among keys c.seen.i c.unwrap-number.result.now at) in
-    class_some _ _ c.requires.measure.0 c.requires.measure.1 c.unwrap-number.result.now p.there p.class
+    class_some _ _ c.dims-dims.ensures.rows.0 c.dims-dims.ensures.rows.1 c.unwrap-number.result.now p.there p.class
 
 pub seen-preserved : goal.seen-preserved
 seen-preserved g c =
-    let tree = c.args.tree.now.tree in
-    let n = c.args.tree.now.width in
-    let ask = c.args.ask.now in
+    let tree = c.args.selection.now.tree.now.tree in
+    let n = c.args.selection.now.tree.now.width in
+    let ask = c.args.selection.now.ask.now in
     let seen = c.seen.seen.keys in
     let after = c.visit.new.seen.keys in
     let x = c.unwrap-number.result.now in
@@ -59,8 +59,8 @@ seen-preserved g c =
     let here : slice_get seen c.seen.i ≡ Some x = sym c.get_index.ensures.key
     ∙ ap option_copied c.unwrap-number.ensures in
     let at : get_or seen c.seen.i 0 ≡ x = some_same (sym (got seen c.seen.i 0 l) ∙ here) in
-    let source = c.requires.measure.0 in
-    let h = c.requires.measure.1 in
+    let source = c.dims-dims.ensures.rows.0 in
+    let h = c.dims-dims.ensures.rows.1 in
     let v = c.in-Ok.ensures.visited source h in
     record {
       within = omega (arith, l, grown seen after v.found v.seen_more);
@@ -78,11 +78,11 @@ seen-preserved g c =
 
 pub returns-clause-met : goal.returns-clause-met
 returns-clause-met g c = λ source h.
-    let tree = c.args.tree.now.tree in
+    let tree = c.args.selection.now.tree.now.tree in
     let seen = c.seen.seen.keys in
     let met = map number_of c.seen.met.items in
     let end : c.seen.i ≡ length seen = omega (arith, c.seen-test.false, c.len.ensures.len, c.seen.invariant.within) in
-    all_met _ tree source h c.args.ask.now c.args.node.0 seen met c.seen.invariant.first
-    (subst (λ i. AreQueued tree source c.args.ask.now c.args.node.0 seen i) end (c.seen.invariant.seen source h))
-    (λ k. subst (λ i. (Among k met → Among k (take i seen) × (wants tree c.args.ask.now k ≡ true))
-    × (Among k (take i seen) × (wants tree c.args.ask.now k ≡ true) → Among k met)) end (c.seen.invariant.each k))
+    all_met _ tree source h c.args.selection.now.ask.now c.args.node.0 seen met c.seen.invariant.first
+    (subst (λ i. AreQueued tree source c.args.selection.now.ask.now c.args.node.0 seen i) end (c.seen.invariant.seen source h))
+    (λ k. subst (λ i. (Among k met → Among k (take i seen) × (wants tree c.args.selection.now.ask.now k ≡ true))
+    × (Among k (take i seen) × (wants tree c.args.selection.now.ask.now k ≡ true) → Among k met)) end (c.seen.invariant.each k))

@@ -11,12 +11,12 @@ invariant-seen g l = record {
   within : l.i ≤ length l.seen.keys;
   first : Among l.fn.node.0 l.seen.keys;
   apart : IsDistinct nat_eq l.seen.keys;
-  seen : (source : TreeRows) → IsTreeOf l.tree.width l.tree.tree source
-      → AreQueued l.tree.tree source l.ask l.fn.node.0 l.seen.keys l.i;
+  seen : (source : TreeRows) → IsTreeOf l.selection.tree.now.width l.selection.tree.now.tree source
+      → AreQueued l.selection.tree.now.tree source l.selection.ask.now l.fn.node.0 l.seen.keys l.i;
   each : (k : ℕ) → Among k (map number_of l.met.items)
-      ↔ (Among k (take l.i l.seen.keys) × (wants l.tree.tree l.ask k ≡ true));
+      ↔ (Among k (take l.i l.seen.keys) × (wants l.selection.tree.now.tree l.selection.ask.now k ≡ true));
   once : IsDistinct nat_eq (map number_of l.met.items);
-  cells : AreAt l.tree.tree l.met.items;
+  cells : AreAt l.selection.tree.now.tree l.met.items;
 }
 
 abbrev pub decreases-seen : goal.decreases-seen

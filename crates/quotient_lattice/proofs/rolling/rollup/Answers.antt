@@ -1,4 +1,4 @@
-use Rattle.std.proofs.Common.{sym, ap, ◌∙◌, arith}
+use Rattle.std.proofs.Common.{sym, ap, subst, ◌∙◌, arith}
 use Rattle.std.specs.Cmp.{nat_cmp_total}
 use Rattle.std.specs.FinMap as numbers
 use Rattle.std.specs.Ordering.{nat_cmp}
@@ -6,6 +6,8 @@ use Rattle.std.proofs.lemmas.Result.{IfOk-weaker}
 use Rattle.cube_defs.specs.Text.{text_cmp}
 use Rattle.cube_laws.specs.Recoding.{coded_cell}
 use Rattle.iceberg_query.specs.Asked.{ask_in}
+use Rattle.iceberg_query.specs.Measured.{AreMeasured}
+use Rattle.iceberg_query.proofs.CallerLemmas.{are_measured}
 use Rattle.qc_arena.specs.RecordReaders.{record_at}
 use Rattle.tree_search.proofs.CallerLemmas.{wide, cell_there}
 use Rattle.value_dict.specs.Recoded.{text_in, decoded_row_list}
@@ -17,6 +19,14 @@ use Rattle.quotient_lattice.proofs.Lowest.{all_wide, lowest_kept}
 use Rattle.quotient_lattice.proofs.PlacedOrder.{nodes_are_classes, nodes_told}
 use Rattle.quotient_lattice.proofs.NodesDecoded.{class_known, tells, text_anti, text_total}
 use Rattle.quotient_lattice.proofs.rolling.rollup.Goals as goal
+
+pub invariant_of-selection : goal.invariant_of-selection
+invariant_of-selection g c =
+    let s = c.requires.measure in
+    record {
+      measured = subst (λ tree. AreMeasured tree c.args.ask.now.kind) (sym c.of-tree.ensures.tree)
+          (are_measured _ _ s.0 s.1 c.args.ask.now.kind s.2);
+    }
 
 pub most_general_of-requires : goal.most_general_of-requires
 most_general_of-requires g c =
