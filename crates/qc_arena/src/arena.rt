@@ -1,11 +1,12 @@
 // Nodes by their numbers. A rollback restores the nodes of `begin`, numbers included.
-ghost use Rattle.std.specs.Prelude.{Err, IfOk, IfSome, IsSome, None, Ok, OnErr, OnOk, Some, false, if◌then◌else◌, nat_eq, true, ℕ, ◌+◌, ◌<◌, ◌||◌, ◌↔◌, ◌≡◌, ◌≢◌, ◌≤◌};
+ghost use Rattle.std.specs.Prelude.{Err, IfNone, IfOk, IfSome, IsSome, None, Ok, OnErr, OnOk, Some, false, if◌then◌else◌, nat_eq, replicate, true, ℕ, ◌+◌, ◌<◌, ◌||◌, ◌↔◌, ◌≡◌, ◌≢◌, ◌≤◌};
 ghost use Rattle.cell_core.specs.Entry.{IsCode};
 ghost use Rattle.std.specs.FinMap as map;
 ghost use Rattle.std.specs.FinSet as set;
 ghost use Rattle.std.specs.Option.{option_map};
 ghost use Rattle.std.specs.Ordering.{nat_cmp};
 ghost use Rattle.aggregates.specs.Views.{agg_in};
+ghost use Rattle.cube_defs.specs.Tree.{cell_at};
 ghost use Rattle.tree_laws.specs.Counts.{classes_in, links_in, tree_edges_in};
 ghost use Rattle.widen_laws.specs.Widened.{with_any_by_number};
 ghost use Rattle.qc_arena.specs.Changes.{AreNew, class_now, class_was};
@@ -491,6 +492,8 @@ impl QcArena {
     }
 
     /// A number that is larger than each node's number. It is refused if it exceeds 4,294,967,295.
+    /// Nodes that were removed earlier may have had larger numbers than the present ones, so the
+    /// size of the tree is no bound for it.
     pub fn numbers(&self) -> Result<u32, Memory>
         ensures { IfOk result (λ numbers. (q : ℕ) → numbers ≤ q → map.get self.now.now q ≡ None) }
     {
@@ -502,11 +505,24 @@ impl QcArena {
     }
 
     /// The aggregate of the node with a number. None if there is no such node, or if it is no
-    /// class. This is for scans of all classes, and counts as no step.
-    pub fn class_at(&self, number: u32) -> Option<Agg>
-        ensures { option_map agg_in result ≡ class_now self.now number }
+    /// class.
+    pub fn class_at<L: Ledger>(&self, number: u32, steps: &mut Steps<L>) -> Option<Agg>
+        ensures value { option_map agg_in result ≡ class_now self.now number }
+        ensures steps { steps.new ≡ steps.old + 1 }
     {
+        steps.tick();
         class_in_place(&self.nodes, &self.parts, number)
+    }
+
+    /// The number of the node without values. None if there are no nodes. It is stored, as the
+    /// counts are.
+    pub fn root_number(&self) -> Option<NodeNo>
+        ensures some { IfSome result
+            (λ k. cell_at self.now.now k.0 ≡ Some (replicate self.now.width None)) }
+        ensures none { IfNone result ((k : ℕ)
+            → cell_at self.now.now k ≢ Some (replicate self.now.width None)) }
+    {
+        self.kept.root
     }
 
     /// The number of classes.
@@ -564,7 +580,7 @@ impl Nodes for QcArena {
 
     fn root<L: Ledger>(&self, steps: &mut Steps<L>) -> Option<NodeNo> {
         steps.tick();
-        self.kept.root
+        self.root_number()
     }
 
     fn end_of<L: Ledger>(&self, node: NodeNo, steps: &mut Steps<L>) -> Option<(u8, Code)> {
