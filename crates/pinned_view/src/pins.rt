@@ -1,5 +1,5 @@
 // Pinned versions.
-ghost use Rattle.std.specs.Prelude.{filter, length, map, not, option_copied, vec_capacity, ◌<◌, ◌==◌, ◌≡◌, ◌≤◌};
+ghost use Rattle.std.specs.Prelude.{filter, length, map, not, option_copied, vec_capacity, ◌==◌, ◌≡◌, ◌≤◌};
 ghost use Rattle.std.specs.List.{All, find, list_any};
 ghost use Rattle.pinned_view.specs.Pins.{has_name, moved_back, version_in};
 ghost use Rattle.pinned_view.specs.Versions.{version_now};
@@ -8,12 +8,9 @@ ghost use Rattle.warehouse.specs.Counted.{AreCounted};
 ghost use Rattle.warehouse.specs.State.{AreContents};
 
 use arrayvec::ArrayString;
-use cell_core::{NodeNo, Steps};
-use qc_arena::{Nodes, QcArena};
-use std::marker::Brand;
+use cell_core::NodeNo;
 use std::mem::ManuallyDrop;
 use std::snapshot::Snapshot;
-use std::sync::ledger::{Blank, Ledger};
 use warehouse::{Stats, Warehouse};
 
 /// The most versions that may be pinned.
@@ -47,28 +44,11 @@ impl Pin {
         Pin {
             name: own,
             from,
-            root: root_of(warehouse.tree()),
+            root: warehouse.tree().root_number(),
             stats: warehouse.stats(),
             was: warehouse.snapshot(),
         }
     }
-}
-
-// The root of a tree.
-fn root_of(tree: &QcArena) -> Option<NodeNo>
-    ensures { IsRootOf tree.now.width tree.now.now result }
-{
-    root_on::<Brand>(tree, Blank::new(1))
-}
-
-fn root_on<L: Ledger>(tree: &QcArena, blank: Blank) -> Option<NodeNo>
-    requires name { blank.name ≡ L.name }
-    requires parts { blank.parts ≡ L.parts }
-    requires some { 0 < L.parts }
-    ensures { IsRootOf tree.now.width tree.now.now result }
-{
-    let mut steps = Steps::<L>::start(blank);
-    tree.root(&mut steps)
 }
 
 /// The version of a name, if there is one.

@@ -14,6 +14,7 @@ use Rattle.aggregates.specs.declared.agg.Agg.{Agg}
 use Rattle.aggregates.specs.declared.kind.AggKind.{AggKind}
 use Rattle.cell_core.specs.declared.cell.NodeNo.{NodeNo}
 use Rattle.cube_defs.specs.declared.limits.TheConstants.{MAX_SCALE}
+use Rattle.measure_index.specs.Builder.{AreKeysOf, GatheredKeys, gathered_units}
 use Rattle.measure_index.specs.Entries.{HaveMeasure}
 use Rattle.measure_index.specs.Index.{empty_ranking, ranking_of, scale_of, units}
 use Rattle.measure_index.specs.Rankings.{IsIndex, Ranking}
@@ -145,3 +146,20 @@ pub made-empty : {E : Type 0} (schema : Layout) (scales : List ℕ) (kinds : Lis
 made-empty schema scales kinds (Ok index) same named made is
     = index-empty schema scales index same (made ∙ ap (map (empty_ranking scales)) named) is
 made-empty schema scales kinds (Err e) same named made is = tt
+
+-- the units of an index that may not be had for want of memory
+pub units-named : {E : Type 0} (r : Result (List GatheredKeys) E) (made named : List (AggKind × ℕ)) → made ≡ named
+    → IfOk r (λ filling. gathered_units filling ≡ made) → IfOk r (λ filling. gathered_units filling ≡ named)
+units-named (Ok filling) made named same units = units ∙ same
+units-named (Err e) made named same units = tt
+
+-- the index that is made of all classes, if it is
+pub index-made : {E : Type 0} (schema : Layout) (tree : Tree ℕ) (filling : List GatheredKeys)
+    (pairs : List (NodeNo × Agg)) → AreKeysOf pairs filling → AreNew (λ _. None) (class_of_node tree) pairs
+    → gathered_units filling ≡ map (unit-in schema) schema.indexes
+    → (r : Result (List Ranking) E) → IfOk r (λ index. units index ≡ gathered_units filling)
+    → IfOk r (λ index. (classes : List (NodeNo × Agg)) (class : ℕ → Option defs.Agg) → AreKeysOf classes filling
+    → AreNew (λ _. None) class classes → IsIndex class index) → IfOk r (λ index. IsIndexed schema tree index)
+index-made schema tree filling pairs keys new named (Ok index) us are
+    = record { classes = are pairs (class_of_node tree) keys new; kinds = us ∙ named }
+index-made schema tree filling pairs keys new named (Err e) us are = tt

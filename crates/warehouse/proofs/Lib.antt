@@ -5,6 +5,7 @@ pub mod Decoding
 mod Deletions
 mod Growing
 mod Indexed
+mod NodeLists
 mod ListedClasses
 mod TreeInsertions
 mod Inserting

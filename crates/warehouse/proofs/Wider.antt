@@ -27,6 +27,7 @@ use Rattle.value_dict.specs.TextLists.{IsDictionary, TextLists}
 use Rattle.value_dict.specs.Decoded.{AreCodes, RowsAreCodes, decoded, decoded_row}
 use Rattle.warehouse.specs.Batch.{Applied}
 use Rattle.warehouse.specs.ClassMoves.{IsWide}
+use Rattle.warehouse.specs.NodeLists.{cost_of_listing}
 use Rattle.warehouse.specs.Steps.{frame}
 use Rattle.warehouse.specs.Stored.{IsStored, IsTreeOfTable, state_of}
 use Rattle.warehouse.specs.State.{State}
@@ -217,7 +218,10 @@ kept-wide schema table tree dims long closed width max few from = record {
       (sym long) from;
 }
 
--- what handing the classes on costs is within what a dimension may cost
-pub cost-wide : (dims : ℕ) (tree : Tree ℕ) → 16 * finmap.len tree ≤ cost_of_widening dims tree
-cost-wide dims tree = mul-le 16 (finmap.len tree) (16 * (dims + 1)) (finmap.len tree + edges_in tree + 1)
-    (omega arith) (omega arith)
+-- what listing the nodes, handing the classes on and filling the index costs is within what a dimension may cost
+pub cost-wide : (dims : ℕ) (tree : Tree ℕ) (count from listed to : ℕ) → count ≤ finmap.len tree
+    → listed ≤ from + cost_of_listing tree → to ≤ listed + 9 * count → to ≤ from + cost_of_widening dims tree
+cost-wide dims tree count from listed to few first rest =
+    let within = mul-le 16 (finmap.len tree + edges_in tree + 1) (16 * (dims + 1))
+    (finmap.len tree + edges_in tree + 1) (omega arith) (omega arith) in
+    omega (arith, few, first, rest, within)

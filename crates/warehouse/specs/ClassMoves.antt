@@ -1,8 +1,9 @@
--- How far the classes of a tree are handed on to new children, as its numbers are gone through.
-use Rattle.std.specs.Prelude.{ℕ, Bool, true, false, ◌≡◌, ◌≢◌, ◌⊎◌, ◌<◌, ◌≤◌, Option, Some, None, [], length, is_some, nat_eq}
+-- How far the classes of a tree are handed on to new children, as its nodes are gone through.
+use Rattle.std.specs.Prelude.{ℕ, Bool, true, false, ◌≡◌, ◌≢◌, ◌⊎◌, ◌<◌, List, Some, None, [], length, is_some, nat_eq}
 use Rattle.std.specs.FinMap as map
-use Rattle.std.specs.List.{AllByRecursion}
+use Rattle.std.specs.List.{AllByRecursion, list_any}
 use Rattle.std.specs.Option.{option_map}
+use Rattle.cell_core.specs.declared.cell.NodeNo.{NodeNo}
 use Rattle.cube_defs.specs.Cell.{Cell, with_value}
 use Rattle.cube_defs.specs.Rows.{Agg}
 use Rattle.cube_defs.specs.Tree.{Edge, Tree}
@@ -10,11 +11,6 @@ use Rattle.qc_arena.specs.Edges.{with_edge}
 use Rattle.qc_arena.specs.Map.{Known, with_class, with_forced}
 use Rattle.qc_arena.specs.RecordReaders.{record_at}
 use Rattle.widen_laws.specs.Widened.{child_by_number, with_forced_value_by_number, with_any_by_number}
-
--- whether a cell's last label is in the dimension
-abbrev pub is_in : ℕ → Option (ℕ × ℕ) → Bool
-is_in dim None = false
-is_in dim (Some label) = nat_eq label.0 dim
 
 -- the label of a new child
 abbrev pub label_to : ℕ → ℕ → Edge ℕ ℕ
@@ -35,24 +31,30 @@ pub record IsWide (dims : ℕ) (tree : Tree ℕ) : Type 0 where
   pub cells : (k : ℕ) (n : Known) → map.get tree k ≡ Some n → length n.cell ≡ dims
   pub labels : (k : ℕ) (n : Known) → map.get tree k ≡ Some n → AllByRecursion (λ x. x.dim < dims) n.edges
 
--- the classes whose numbers are less have handed their aggregates to children, and the other nodes have Any in the new
+-- the classes of these numbers have handed their aggregates to children, and the other nodes have Any in the new
 -- dimension
-pub record HasMovedClasses (place dims : ℕ) (child : ℕ → ℕ) (tree wide : Tree ℕ) : Type 0 where
+pub record HasMovedClasses (done : ℕ → Bool) (dims : ℕ) (child : ℕ → ℕ) (tree wide : Tree ℕ) : Type 0 where
   pub others : (k : ℕ) (n : Known) → map.get tree k ≡ Some n → is_some n.class ≡ false
       → map.get wide k ≡ Some (with_any_by_number n)
-  pub later : (k : ℕ) (n : Known) → map.get tree k ≡ Some n → place ≤ k → map.get wide k ≡ Some (with_any_by_number n)
-  pub classes : (k : ℕ) (n : Known) → map.get tree k ≡ Some n → is_some n.class ≡ true → k < place
+  pub later : (k : ℕ) (n : Known) → map.get tree k ≡ Some n → done k ≡ false
+      → map.get wide k ≡ Some (with_any_by_number n)
+  pub classes : (k : ℕ) (n : Known) → map.get tree k ≡ Some n → is_some n.class ≡ true → done k ≡ true
       → map.get wide k ≡ Some (with_forced_value_by_number dims 0 (child k) n)
-  pub children : (k : ℕ) (n : Known) → map.get tree k ≡ Some n → is_some n.class ≡ true → k < place
+  pub children : (k : ℕ) (n : Known) → map.get tree k ≡ Some n → is_some n.class ≡ true → done k ≡ true
       → map.get wide (child k) ≡ Some (child_by_number 0 k n)
-  pub fresh : (k : ℕ) (n : Known) → map.get tree k ≡ Some n → is_some n.class ≡ true → k < place
+  pub fresh : (k : ℕ) (n : Known) → map.get tree k ≡ Some n → is_some n.class ≡ true → done k ≡ true
       → map.get tree (child k) ≡ None
   pub only : (q : ℕ) (m : Known) → map.get wide q ≡ Some m
       → ((n : Known) × (map.get tree q ≡ Some n))
-      ⊎ ((k : ℕ) × (n : Known) × (map.get tree k ≡ Some n) × (is_some n.class ≡ true) × (k < place) × (q ≡ child k))
+      ⊎ ((k : ℕ) × (n : Known) × (map.get tree k ≡ Some n) × (is_some n.class ≡ true) × (done k ≡ true)
+      × (q ≡ child k))
 
-abbrev pub MovesClasses : ℕ → ℕ → Tree ℕ → Tree ℕ → Type 0
-MovesClasses place dims tree wide = (child : ℕ → ℕ) × HasMovedClasses place dims child tree wide
+abbrev pub MovesClasses : (ℕ → Bool) → ℕ → Tree ℕ → Tree ℕ → Type 0
+MovesClasses done dims tree wide = (child : ℕ → ℕ) × HasMovedClasses done dims child tree wide
+
+-- whether a node is in a list
+abbrev pub is_listed : List NodeNo → ℕ → Bool
+is_listed nodes k = list_any (λ x. nat_eq k x.0) nodes
 
 -- a child with a class was added to a node
 pub record HasChild (dim node : ℕ) (class : Agg) (tree tree' : Tree ℕ) (to : ℕ) : Type 0 where

@@ -5,6 +5,7 @@ pub mod InPlace
 pub mod Steps
 pub mod Widening
 pub mod ClassMoves
+pub mod NodeLists
 pub mod Counted
 pub mod Dimensions
 pub mod Changing

@@ -8,6 +8,7 @@ ghost use Rattle.csv_load.specs.Batch.{change_at, id_of, inserted, is_deletion, 
 ghost use Rattle.cube_defs.specs.Tree.{IsCanonical, nodes};
 ghost use Rattle.qc_arena.specs.Map as arena;
 ghost use Rattle.qc_arena.specs.Map.{is_open, overlaid};
+ghost use Rattle.qc_schema.specs.Schema.{IsLayout};
 ghost use Rattle.std.specs.Ordering.{nat_cmp};
 ghost use Rattle.warehouse.specs.Batch as batches;
 ghost use Rattle.warehouse.specs.Batch.{first_number, first_twice, full_dim, result_of, texts_after, with_tuple};
@@ -17,10 +18,11 @@ ghost use Rattle.warehouse.specs.State.{IsIndexed, State};
 ghost use Rattle.warehouse.specs.Steps.{IsCause, IsOver, IsTreeBefore, is_there, rows_before, rows_from_place};
 ghost use Rattle.warehouse.specs.Stored.{IsTreeOfTable, IsStored, IsTreeOfSome, applied_in, refusal_in};
 
+use crate::Memory;
 use crate::checks::{check_once, first_present, is_full};
 use crate::cube::Cube;
 use crate::deleting::delete_rows;
-use crate::indexing::change_index;
+use crate::indexing::{build_index, change_index};
 use crate::learning::{learn_tuple, lengths, values_full};
 use crate::refused::{Applied, Refused};
 use crate::row_insertion::insert_in_tree;
@@ -286,6 +288,31 @@ fn change_and_build<L: Ledger>(
     }
 }
 
+// Makes the index of the present tree: in place from that of the tree at the begin of the batch, or
+// else from scratch. A refusal leaves it as it was.
+fn make_index<L: Ledger>(
+    schema: &Schema,
+    tree: &QcArena,
+    index: &mut Index,
+    building: Building,
+    alloc: Global,
+    steps: &mut Steps<L>,
+) -> Result<(), Memory>
+    requires layout { IsLayout schema.now }
+    requires opened { is_open tree.now ≡ true }
+    requires before { IfSome tree.now.was (λ before. IsTreeOfSome schema.now before.tree
+        × IsIndexed schema.now before.tree index.old) }
+    requires now { IsTreeOfSome schema.now tree.now.now }
+    ensures indexed { OnOk result (IsIndexed schema.now tree.now.now index.new) }
+    ensures err { OnErr result (index.new ≡ index.old) }
+    ensures steps { building ≡ Building.InPlace → steps.new ≡ steps.old }
+{
+    match building {
+        Building::InPlace => change_index(schema, tree, index, alloc),
+        Building::FromScratch => build_index(schema, tree, index, alloc, steps),
+    }
+}
+
 // Makes the changes in an open batch, the tree of the rows after them, and last the index of its
 // classes. After a refusal some of the changes are made, and the index is as it was.
 fn change_and_index<L: Ledger>(
@@ -315,7 +342,7 @@ fn change_and_index<L: Ledger>(
         Err(refused) => return Err(refused),
     }
     cube.table.recall_invariant();
-    match change_index(schema, &cube.tree, index, cube.alloc) {
+    match make_index(schema, &cube.tree, index, building, cube.alloc, steps) {
         Ok(()) => Ok(()),
         Err(_) => Err(Refused::Memory),
     }

@@ -1,23 +1,26 @@
 // The index of the tree's classes: it is made for a schema, and changed with a batch.
 ghost use Rattle.std.specs.FinMap as finmap;
-ghost use Rattle.std.specs.Prelude.{All, IfOk, IfSome, List, MatchOption, OnErr, OnOk, [], length, map, take, true, ◌++◌, ◌∷◌, ◌≡◌};
+ghost use Rattle.std.specs.Prelude.{All, IfOk, IfSome, List, MatchOption, OnErr, OnOk, [], length, map, take, true, ◌+◌, ◌++◌, ◌∷◌, ◌≡◌, ◌≤◌};
 ghost use Rattle.aggregates.specs.Views.{IsThere};
 ghost use Rattle.aggregates.specs.declared.agg.Agg as aggs;
 ghost use Rattle.cell_core.specs.declared.cell.NodeNo as numbers;
 ghost use Rattle.measure_index.specs.Builder.{AreKeysOf, gathered_units};
 ghost use Rattle.qc_arena.specs.Map.{is_open};
 ghost use Rattle.qc_schema.specs.Schema.{IsLayout};
-ghost use Rattle.warehouse.specs.State.{IsIndexed};
+ghost use Rattle.iceberg_query.specs.Subtree.{numbers as numbers_of};
+ghost use Rattle.warehouse.specs.NodeLists.{AreNodesOf};
+ghost use Rattle.warehouse.specs.State.{IsIndexed, scale_in};
 ghost use Rattle.warehouse.specs.Stored.{IsTreeOfSome};
 
 use crate::Memory;
 use aggregates::Agg;
-use cell_core::NodeNo;
+use cell_core::{NodeNo, Steps};
 use cube_defs::MAX_MEASURES;
 use measure_index::{Index, IndexBuilder};
-use qc_arena::QcArena;
+use qc_arena::{Nodes, QcArena};
 use qc_schema::Schema;
 use std::alloc::Global;
+use std::sync::ledger::Ledger;
 
 // The scales of the measures.
 fn scales(schema: &Schema) -> [u8; MAX_MEASURES as usize]
@@ -58,26 +61,95 @@ fn push_class(filling: &mut IndexBuilder, number: u32, class: &Option<Agg>) -> R
     }
 }
 
-/// The index of the tree's classes, built from all of them.
-pub(crate) fn filled_index(alloc: Global, schema: &Schema, tree: &QcArena) -> Result<Index, Memory>
-    requires layout { IsLayout schema.now }
-    requires tree { IsTreeOfSome schema.now tree.now.now }
-    ensures { IfOk result (λ index. IsIndexed schema.now tree.now.now index) }
+// An index of the kinds that the schema names, to be filled with the classes of the tree.
+fn new_filling(alloc: Global, schema: &Schema, tree: &QcArena) -> Result<IndexBuilder, Memory>
+    requires { IsLayout schema.now }
+    ensures units { IfOk result (λ filling. gathered_units filling
+        ≡ map (λ kind. (kind, scale_in schema.now kind)) schema.now.indexes) }
+    ensures classes { IfOk result (AreKeysOf []) }
 {
     let all = scales(schema);
     let count = usize::from(schema.measures());
     let room = tree.class_count() as usize;
-    let mut filling = IndexBuilder::new(alloc, schema.indexes(), &all[..count], room)?;
+    IndexBuilder::new(alloc, schema.indexes(), &all[..count], room)
+}
+
+// The index of the tree's classes, found at all numbers, also at those without a node. No bound is
+// known for its steps.
+fn filled_index<L: Ledger>(
+    alloc: Global,
+    schema: &Schema,
+    tree: &QcArena,
+    steps: &mut Steps<L>,
+) -> Result<Index, Memory>
+    requires layout { IsLayout schema.now }
+    requires tree { IsTreeOfSome schema.now tree.now.now }
+    ensures { IfOk result (λ index. IsIndexed schema.now tree.now.now index) }
+{
+    let mut filling = new_filling(alloc, schema, tree)?;
     let numbers = tree.numbers()?;
     'numbers: for number in 0..numbers {
-        push_class(&mut filling, number, &tree.class_at(number))?;
+        push_class(&mut filling, number, &tree.class_at(number, steps))?;
     }
     filling.finish()
 }
 
-/// Changes the index of the tree at the begin of the batch into that of the present tree. A refusal
-/// leaves it as it was. If the schema names no kind, the classes are not listed. If the index has
-/// no class, it is built from all of them, without a list.
+/// The index of the classes of a tree whose nodes are listed.
+pub(crate) fn listed_index<L: Ledger>(
+    alloc: Global,
+    schema: &Schema,
+    tree: &QcArena,
+    nodes: &Vec<NodeNo>,
+    steps: &mut Steps<L>,
+) -> Result<Index, Memory>
+    requires layout { IsLayout schema.now }
+    requires tree { IsTreeOfSome schema.now tree.now.now }
+    requires nodes { AreNodesOf tree.now.now (numbers_of nodes.now.items) }
+    ensures index { IfOk result (λ index. IsIndexed schema.now tree.now.now index) }
+    ensures steps { steps.new ≤ steps.old + length nodes.now.items }
+{
+    let mut filling = match new_filling(alloc, schema, tree) {
+        Ok(filling) => filling,
+        Err(error) => return Err(error),
+    };
+    'places: for place in 0..nodes.len() {
+        let node = nodes[place];
+        match push_class(&mut filling, node.0, &tree.class(node, steps)) {
+            Ok(()) => {}
+            Err(error) => return Err(error),
+        }
+    }
+    filling.finish()
+}
+
+/// Changes the index of the tree at the begin of the batch into that of the present tree, which was
+/// built from scratch. A refusal leaves it as it was. If the schema names no kind, the classes are
+/// not read.
+pub(crate) fn build_index<L: Ledger>(
+    schema: &Schema,
+    tree: &QcArena,
+    index: &mut Index,
+    alloc: Global,
+    steps: &mut Steps<L>,
+) -> Result<(), Memory>
+    requires layout { IsLayout schema.now }
+    requires opened { is_open tree.now ≡ true }
+    requires before { IfSome tree.now.was (λ before. IsTreeOfSome schema.now before.tree
+        × IsIndexed schema.now before.tree index.old) }
+    requires now { IsTreeOfSome schema.now tree.now.now }
+    ensures indexed { OnOk result (IsIndexed schema.now tree.now.now index.new) }
+    ensures err { OnErr result (index.new ≡ index.old) }
+{
+    if schema.indexes().is_empty() {
+        return Ok(());
+    }
+    *index = filled_index(alloc, schema, tree, steps)?;
+    Ok(())
+}
+
+/// Changes the index of the tree at the begin of the batch into that of the present tree, by the
+/// classes that were removed and added. A refusal leaves it as it was. If the schema names no kind,
+/// the classes are not listed.
 pub(crate) fn change_index(
     schema: &Schema,
     tree: &QcArena,
@@ -93,10 +165,6 @@ pub(crate) fn change_index(
     ensures err { OnErr result (index.new ≡ index.old) }
 {
     if schema.indexes().is_empty() {
-        return Ok(());
-    }
-    if index.is_empty() {
-        *index = filled_index(alloc, schema, tree)?;
         return Ok(());
     }
     let removed = tree.classes_removed(alloc)?;

@@ -8,6 +8,7 @@ mod cube;
 mod deleting;
 mod indexing;
 mod learning;
+mod node_list;
 mod parts;
 mod refused;
 mod row_insertion;

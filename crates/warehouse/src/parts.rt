@@ -13,7 +13,7 @@ ghost use Rattle.warehouse.specs.Stored.{IsNewTree, IsTreeOfTable};
 
 use crate::Memory;
 use crate::changing::rebuild;
-use crate::indexing::{change_index, new_index};
+use crate::indexing::{build_index, new_index};
 use crate::refused::PartsRefused;
 use base_table::Table;
 use cell_core::{HashKeys, Steps};
@@ -120,7 +120,7 @@ pub(crate) fn tree_and_index<L: Ledger>(
             return Err(refused);
         }
     };
-    let Ok(()) = change_index(schema, &tree, &mut index, alloc) else {
+    let Ok(()) = build_index(schema, &tree, &mut index, alloc, steps) else {
         drop(tree);
         drop(index);
         return Err(PartsRefused::Memory);

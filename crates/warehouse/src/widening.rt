@@ -9,24 +9,25 @@ ghost use Rattle.aggregates.specs.Views.{agg_in};
 ghost use Rattle.base_table.specs.Places.{rows_of, widened, with_code};
 ghost use Rattle.cell_core.specs.Gives.{Gives};
 ghost use Rattle.cube_defs.specs.Cell.{depth};
-ghost use Rattle.cube_defs.specs.Tree.{Tree};
+ghost use Rattle.iceberg_query.specs.Subtree.{numbers};
 ghost use Rattle.qc_arena.specs.Map.{CanChange, frame, is_open, is_touched};
 ghost use Rattle.qc_arena.specs.RecordReaders.{record_at};
 ghost use Rattle.qc_schema.specs.Grammar.{is_new_name};
 ghost use Rattle.qc_schema.specs.Schema.{IsLayout, max_dims};
 ghost use Rattle.tree_laws.specs.Counts.{classes_in};
-ghost use Rattle.tree_laws.specs.Walk.{last_label};
 ghost use Rattle.tree_search.specs.Found.{IsTreeOf};
 ghost use Rattle.warehouse.specs.Changing.{AreParts, contents_of, state_in};
 ghost use Rattle.warehouse.specs.Dimensions.{AreRestored, AreClosed, AreWidened, CanWiden};
-ghost use Rattle.warehouse.specs.ClassMoves.{MovesClasses, MovesClassTo, HasChild, IsWide, is_in, with_forced_child};
+ghost use Rattle.warehouse.specs.ClassMoves.{MovesClassTo, HasChild, IsWide, with_forced_child};
+ghost use Rattle.warehouse.specs.NodeLists.{AreNodesOf, MovesClassOf};
 ghost use Rattle.warehouse.specs.State.{IsIndexed};
 ghost use Rattle.warehouse.specs.Stored.{applied_in};
 ghost use Rattle.warehouse.specs.Widening.{KeepsWidened, cost_of_widening, widen_refusal_in, widen_result};
 
 use crate::Memory;
 use crate::cube::Cube;
-use crate::indexing::filled_index;
+use crate::indexing::listed_index;
+use crate::node_list::all_nodes;
 use crate::refused::{Applied, WidenRefused};
 use aggregates::Agg;
 use base_table::Table;
@@ -124,97 +125,65 @@ fn move_class_to_child<L: Ledger>(
     }
 }
 
-// Whether a node's last value is in the dimension.
-fn has_last_value_in<L: Ledger>(tree: &QcArena, node: NodeNo, dim: u8, steps: &mut Steps<L>) -> bool
-    requires { IsSome (finmap.get tree.now.now node.0) }
-    ensures value { result ≡ is_in dim (last_label (record_at tree.now.now node.0).cell) }
-    ensures steps { steps.new ≡ steps.old + 1 }
-{
-    match tree.end_of(node, steps) {
-        Some((last, _)) => last == dim,
-        None => false,
-    }
-}
-
-// Moves the class of a number to a new child, if it has one and is no new child itself. Returns how
-// many classes may still be met.
-fn move_class_at<L: Ledger>(
+// Moves the class of a node, if it has one, to a new child, and appends the child to the nodes.
+// After a refusal nothing is known of the tree.
+fn move_class<L: Ledger>(
     tree: &mut QcArena,
-    number: u32,
+    node: NodeNo,
     dim: u8,
-    left: u64,
-    steps: &mut Steps<L>,
-) -> Result<u64, Memory>
-    requires opened { is_open tree.old ≡ true }
-    requires width { tree.old.width ≡ dim + 1 }
-    requires before { (before : Tree ℕ) × IsWide dim before
-        × MovesClasses number dim before tree.old.now }
-    ensures next { OnOk result ((before : Tree ℕ) → IsWide dim before
-        → MovesClasses number dim before tree.old.now
-        → MovesClasses (number + 1) dim before tree.new.now) }
-    ensures frame { frame tree.new ≡ frame tree.old }
-    ensures steps { IfOk result (λ now. steps.new + 8 * now ≤ steps.old + 8 * left) }
-{
-    let Some(class) = tree.class_at(number) else {
-        return Ok(left);
-    };
-    // Each old class is met once, and each new child once.
-    if left == 0 {
-        return Err(AllocError);
-    }
-    let node = NodeNo(number);
-    if has_last_value_in(tree, node, dim, steps) {
-        return Ok(left - 1);
-    }
-    match move_class_to_child(tree, node, dim, class, steps) {
-        Ok(_) => Ok(left - 1),
-        Err(error) => Err(error),
-    }
-}
-
-// Moves all classes to new children, of which so many may be met. After a refusal nothing is known
-// of the tree.
-fn move_all_classes<L: Ledger>(
-    tree: &mut QcArena,
-    dim: u8,
-    most: u64,
+    nodes: &mut Vec<NodeNo>,
     steps: &mut Steps<L>,
 ) -> Result<(), Memory>
     requires opened { is_open tree.old ≡ true }
-    requires width { tree.old.width ≡ dim + 1 }
-    requires before { (before : Tree ℕ) × IsWide dim before
-        × MovesClasses 0 dim before tree.old.now }
-    ensures kept { OnOk result ((before : Tree ℕ) → IsWide dim before
-        → MovesClasses 0 dim before tree.old.now → KeepsWidened dim before tree.new.now) }
+    requires node { IsSome (finmap.get tree.old.now node.0) }
+    requires room { depth (record_at tree.old.now node.0).cell ≤ dim }
+    requires dim { dim < tree.old.width }
+    ensures moved { OnOk result (MovesClassOf dim node.0 tree.old.now tree.new.now nodes.old.items
+        nodes.new.items (record_at tree.old.now node.0).class) }
     ensures frame { frame tree.new ≡ frame tree.old }
-    ensures steps { OnOk result (steps.new ≤ steps.old + 8 * most) }
+    ensures steps { OnOk result (steps.new ≤ steps.old + 7) }
 {
-    let numbers = tree.numbers()?;
-    let mut left = most;
-    'numbers: for number in 0..numbers {
-        left = match move_class_at(tree, number, dim, left, steps) {
-            Ok(left) => left,
-            Err(error) => return Err(error),
-        };
+    let Some(class) = tree.class(node, steps) else {
+        return Ok(());
+    };
+    let child = match move_class_to_child(tree, node, dim, class, steps) {
+        Ok(child) => child,
+        Err(error) => return Err(error),
+    };
+    match nodes.push(child) {
+        Ok(()) => Ok(()),
+        Err(_) => Err(AllocError),
     }
-    Ok(())
 }
 
-// Adds a dimension to the tree, in which all rows have the code 0. After a refusal nothing is known
-// of the tree.
-fn widen_tree<L: Ledger>(tree: &mut QcArena, steps: &mut Steps<L>) -> Result<(), Memory>
+// Adds a dimension to the tree, in which all rows have the code 0. The new children are appended to
+// the tree's nodes. After a refusal nothing is known of the tree.
+fn widen_tree<L: Ledger>(
+    tree: &mut QcArena,
+    nodes: &mut Vec<NodeNo>,
+    steps: &mut Steps<L>,
+) -> Result<(), Memory>
     requires opened { is_open tree.old ≡ true }
     requires untouched { tree.old.touched ≡ set.empty }
     requires few { tree.old.width < MAX_DIMS }
     requires wide { IsWide tree.old.width tree.old.now }
+    requires nodes { AreNodesOf tree.old.now (numbers nodes.old.items) }
     ensures kept { OnOk result (KeepsWidened tree.old.width tree.old.now tree.new.now) }
+    ensures nodes { OnOk result (AreNodesOf tree.new.now (numbers nodes.new.items)) }
+    ensures count { OnOk result (length nodes.new.items ≤ 2 * length nodes.old.items) }
     ensures frame { frame tree.new ≡ record (frame tree.old) { width = tree.old.width + 1 } }
-    ensures steps { OnOk result (steps.new ≤ steps.old + 16 * finmap.len tree.old.now) }
+    ensures steps { OnOk result (steps.new ≤ steps.old + 7 * length nodes.old.items) }
 {
     let dim = tree.dims();
-    let most = 2 * u64::from(tree.live());
     tree.widen();
-    move_all_classes(tree, dim, most, steps)
+    'places: for place in 0..nodes.len() {
+        let node = nodes[place];
+        match move_class(tree, node, dim, nodes, steps) {
+            Ok(()) => {}
+            Err(error) => return Err(error),
+        }
+    }
+    Ok(())
 }
 
 // Gives a proof that the tree has no more nodes than it may have. At run time it does nothing.
@@ -225,11 +194,13 @@ fn is_small(tree: &QcArena)
 }
 
 // Adds the dimension to rows and tree in an open batch, and builds the index of the tree's classes.
-// After a refusal nothing is known of the tree.
+// The tree's nodes are given, and the new ones appended. After a refusal nothing is known of the
+// tree.
 fn widen_both<L: Ledger>(
     wide: &Schema,
     table: &mut Table,
     tree: &mut QcArena,
+    nodes: &mut Vec<NodeNo>,
     alloc: Global,
     steps: &mut Steps<L>,
 ) -> Result<Index, Memory>
@@ -243,6 +214,7 @@ fn widen_both<L: Ledger>(
     requires width { tree.old.width ≡ table.old.dims }
     requires tree { IsTreeOf table.old.dims tree.old.now
         (record { measures = table.old.measures; rows = rows_of table.old }) }
+    requires nodes { AreNodesOf tree.old.now (numbers nodes.old.items) }
     ensures table { table.new ≡ widened 0 table.old }
     ensures rows { rows_of table.new ≡ map (with_code 0) (rows_of table.old) }
     ensures tree { OnOk result (IsTreeOf (table.old.dims + 1) tree.new.now
@@ -251,37 +223,46 @@ fn widen_both<L: Ledger>(
     ensures few { finmap.len tree.new.now ≤ tree.new.max }
     ensures frame { frame tree.new ≡ record (frame tree.old) { width = table.old.dims + 1 } }
     ensures index { IfOk result (λ index. IsIndexed wide.now tree.new.now index) }
-    ensures steps { OnOk result (steps.new ≤ steps.old + 16 * finmap.len tree.old.now) }
+    ensures steps { OnOk result (steps.new ≤ steps.old + 9 * length nodes.old.items) }
 {
     table.widen(0);
-    let done = widen_tree(tree, steps);
+    let done = widen_tree(tree, nodes, steps);
     is_small(tree);
     match done {
         Ok(()) => {}
         Err(error) => return Err(error),
     }
-    filled_index(alloc, wide, tree)
+    listed_index(alloc, wide, tree, nodes, steps)
 }
 
-// Adds the dimension to rows, texts and tree, and builds the index of the tree's classes. After a
-// refusal all is as it was.
+// Adds the dimension to rows, texts and tree, whose nodes are given, and builds the index of the
+// tree's classes. After a refusal all is as it was.
 fn widen_parts<L: Ledger>(
     wide: &Schema,
     cube: &mut Cube,
+    nodes: &mut Vec<NodeNo>,
     value: &str,
     steps: &mut Steps<L>,
 ) -> Result<Index, Memory>
-    requires { CanWiden wide.now cube.old }
+    requires can { CanWiden wide.now cube.old }
+    requires nodes { AreNodesOf cube.old.tree.now (numbers nodes.old.items) }
     ensures widened { OnOk result (AreWidened value.now cube.old cube.new) }
     ensures back { OnErr result (AreRestored cube.old cube.new) }
     ensures closed { AreClosed cube.old cube.new }
     ensures index { IfOk result (λ index. IsIndexed wide.now cube.new.tree.now index) }
-    ensures steps { OnOk result (steps.new ≤ steps.old + 16 * finmap.len cube.old.tree.now) }
+    ensures steps { OnOk result (steps.new ≤ steps.old + 9 * length nodes.old.items) }
 {
     cube.dict.add_dim(value)?;
     cube.table.begin();
     cube.tree.begin();
-    match widen_both(wide, &mut cube.table, &mut cube.tree, cube.alloc, steps) {
+    match widen_both(
+        wide,
+        &mut cube.table,
+        &mut cube.tree,
+        nodes,
+        cube.alloc,
+        steps,
+    ) {
         Ok(index) => {
             cube.commit();
             // After a new dimension the before-images are of no use.
@@ -342,10 +323,11 @@ pub(crate) fn widen<L: Ledger>(
     if let Some(refused) = widen_refusal(schema, &cube.tree) {
         return Err(refused);
     }
+    let mut nodes = all_nodes(cube.alloc, &cube.tree, steps)?;
     let wide = schema.with_dim(cube.alloc, name)?;
     // A schema has a layout of its own.
     let _dims = wide.dims();
-    let made = match widen_parts(&wide, cube, value, steps) {
+    let made = match widen_parts(&wide, cube, &mut nodes, value, steps) {
         Ok(made) => made,
         Err(_) => {
             drop(wide);

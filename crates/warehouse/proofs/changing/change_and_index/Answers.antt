@@ -8,8 +8,8 @@ use Rattle.warehouse.specs.Stored.{IsTreeOfSome}
 use Rattle.warehouse.proofs.Trees.{tree-from}
 use Rattle.warehouse.proofs.changing.change_and_index.Goals as goal
 
-pub change_index-requires-clause-now : goal.change_index-requires-clause-now
-change_index-requires-clause-now g c =
+pub make_index-requires-clause-now : goal.make_index-requires-clause-now
+make_index-requires-clause-now g c =
     let table = c.change_and_build.new.cube.table in
     let frame = c.change_and_build.ensures.frames.of_table in (
       rows_of table,
@@ -18,8 +18,8 @@ change_index-requires-clause-now g c =
           (ap (λ (t : Places). t.measures) frame ∙ c.requires.begun.stored.measures) c.in-Ok.ensures.made.canonical,
     )
 
-pub change_index-requires-clause-before : goal.change_index-requires-clause-before
-change_index-requires-clause-before g c =
+pub make_index-requires-clause-before : goal.make_index-requires-clause-before
+make_index-requires-clause-before g c =
     subst (λ (o : Option Shape). IfSome o (λ before. IsTreeOfSome c.args.schema.now before.tree
     × IsIndexed c.args.schema.now before.tree c.args.index.now))
     (sym (ap (λ (a : Arena). a.was) c.change_and_build.ensures.frames.of_tree)) c.requires.before

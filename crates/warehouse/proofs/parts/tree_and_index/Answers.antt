@@ -11,15 +11,15 @@ use Rattle.warehouse.proofs.Trees.{kept-canonical, kept-empty, tree-from}
 use Rattle.warehouse.proofs.parts.tree_and_index.Goals as goal
 use Rattle.std.specs.Prelude.{ℕ}
 
-pub change_index-requires-clause-before : goal.change_index-requires-clause-before
-change_index-requires-clause-before g c =
+pub build_index-requires-clause-before : goal.build_index-requires-clause-before
+build_index-requires-clause-before g c =
     let l = c.args.schema.now in
     subst (λ (was : Option Shape). IfSome was (λ before. IsTreeOfSome l before.tree
     × IsIndexed l before.tree c.in_ok-index.index)) (sym c.in-Ok.ensures.tree.was)
     (([], (kept-empty l).from), c.in_ok-index.ensures)
 
-pub change_index-requires-clause-now : goal.change_index-requires-clause-now
-change_index-requires-clause-now g c =
+pub build_index-requires-clause-now : goal.build_index-requires-clause-now
+build_index-requires-clause-now g c =
     let t = c.args.table.now in (
       rows_of t,
       tree-from c.args.schema.now t c.in-Ok.tree.now c.requires.valid c.requires.dims c.requires.measures
@@ -40,5 +40,5 @@ returns-clause-tree g c =
 pub returns-clause-index : goal.returns-clause-index
 returns-clause-index g c =
     let now = ap (λ (a : Arena). a.now) c.drop_images.ensures ∙ ap (λ (a : Arena). a.now) c.commit.ensures.value in
-    subst (λ (tree : Tree ℕ). IsIndexed c.args.schema.now tree c.change_index.new.index)
-    (sym now) c.in-Ok-change_index.ensures.indexed
+    subst (λ (tree : Tree ℕ). IsIndexed c.args.schema.now tree c.build_index.new.index)
+    (sym now) c.in-Ok-build_index.ensures.indexed

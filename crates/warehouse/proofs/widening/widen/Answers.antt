@@ -1,4 +1,4 @@
-use Rattle.std.proofs.Common.{◌≡◌, ◌≤◌, ◌*◌, ◌+◌, ◌∙◌, ℕ, List, Some, ap, ap₂, arith, length, map, refl, subst, sym, ◌∷◌, []}
+use Rattle.std.proofs.Common.{◌≡◌, ◌+◌, ◌∙◌, ℕ, List, Some, ap, ap₂, arith, length, map, refl, subst, sym, ◌∷◌, []}
 use Rattle.std.specs.FinMap as finmap
 use Rattle.std.specs.Ordering.{nat_cmp}
 use Rattle.std.specs.Prelude.{Ok}
@@ -20,8 +20,9 @@ use Rattle.warehouse.specs.Changing.{AreParts}
 use Rattle.warehouse.specs.State.{Contents, IsIndexed, State}
 use Rattle.warehouse.specs.Steps.{closed, frame}
 use Rattle.warehouse.specs.Stored.{IsStored, state_of}
-use Rattle.warehouse.specs.Widening.{KeepsWidened, cost_of_widening, nodes_then, widened}
+use Rattle.warehouse.specs.Widening.{KeepsWidened, nodes_then, widened}
 use Rattle.warehouse.proofs.Counted.{classes-kept, nodes-kept}
+use Rattle.warehouse.proofs.NodeLists.{numbers_few}
 use Rattle.warehouse.proofs.States.{stored-next}
 use Rattle.warehouse.proofs.Trees.{kept-back}
 use Rattle.warehouse.proofs.Wider.{cost-wide, kept-wide, refused-full, state-wide, stored-wide, taken-free}
@@ -42,8 +43,8 @@ returns-in-Some-clause-gives g c =
     refused-full (state_of schema dict table) c.args.name.now c.args.value.now _ count c.in-Some.refused
     (sym c.in-Some.is ∙ c.widen_refusal.ensures)
 
-pub widen_parts-requires : goal.widen_parts-requires
-widen_parts-requires g c =
+pub widen_parts-requires-clause-can : goal.widen_parts-requires-clause-can
+widen_parts-requires-clause-can g c =
     let schema = c.args.schema.now in
     let table = c.args.cube.now.table in
     let tree = c.args.cube.now.tree in
@@ -182,7 +183,17 @@ returns-clause-gives g c =
 
 pub returns-clause-steps : goal.returns-clause-steps
 returns-clause-steps g c =
-    let within : 16 * finmap.len c.args.cube.now.tree.now ≤ cost_of_widening
-    (length c.args.schema.now.dims) c.args.cube.now.tree.now
-    = cost-wide (length c.args.schema.now.dims) c.args.cube.now.tree.now in
-    omega (arith, within, c.in-Ok.ensures.steps)
+    let tree = c.args.cube.now.tree.now in
+    cost-wide (length c.args.schema.now.dims) tree (length c.in_ok-nodes.nodes.items) c.args.steps.now
+    c.all_nodes.new.steps c.widen_parts.new.steps
+    (numbers_few tree c.in_ok-nodes.nodes.items c.in_ok-nodes.ensures.nodes) c.in_ok-nodes.ensures.steps
+    c.in-Ok.ensures.steps
+
+pub all_nodes-requires : goal.all_nodes-requires
+all_nodes-requires g c =
+    let kept = c.requires.parts.kept in (
+      record { measures = length c.args.schema.now.measures; rows = rows_of c.args.cube.now.table },
+      subst (λ (n : ℕ). IsTreeOf n c.args.cube.now.tree.now
+          (record { measures = length c.args.schema.now.measures; rows = rows_of c.args.cube.now.table }))
+          (sym kept.width) kept.from,
+    )

@@ -29,7 +29,7 @@ returns-in-Ok-clause-widened g c =
           ∙ ap (λ (t : Places). frame (closed t)) both.table
           ∙ ap (λ (t : Places). frame (closed (widened 0 t))) begun
           ∙ ap (λ w. let t : Places = record (frame table) { dims = table.dims + 1; was = w } in
-          t) (sym c.requires.is_closed);
+          t) (sym c.requires.can.is_closed);
       canonical =
           subst (λ (t : Tree ℕ). IsTreeOf (table.dims + 1) t
           (record { measures = table.measures; rows = rows_of c.commit.new.self.table })) (sym now)
@@ -75,7 +75,7 @@ returns-in-Err-clause-back g c =
     ∙ ap (λ (t : Places). t.measures) begun in
     let max : now.max ≡ table.max = c.rollback.ensures.max ∙ ap (λ (t : Places). t.max) wide
     ∙ ap (λ (t : Places). t.max) begun in
-    let was : now.was ≡ table.was = c.rollback.ensures.was ∙ sym c.requires.is_closed in
+    let was : now.was ≡ table.was = c.rollback.ensures.was ∙ sym c.requires.can.is_closed in
     record {
       texts = c.drop_dim.ensures.value ∙ ap without_last_dim c.in_ok-add_dim.ensures.ok
           ∙ came_and_gone c.args.cube.now.dict c.args.value.now;

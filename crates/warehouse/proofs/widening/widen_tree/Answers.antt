@@ -1,26 +1,77 @@
-use Rattle.std.proofs.Common.{sym, subst}
-use Rattle.std.specs.Prelude.{Err, Ok, OnOk, Result}
+use Rattle.std.proofs.Common.{◌≡◌, ◌∙◌, Some, ap, arith, refl, slice_get, sym, subst}
+use Rattle.std.proofs.lemmas.Option.{slice_get-get_or}
+use Rattle.qc_arena.specs.Map.{frame}
 use Rattle.warehouse.specs.ClassMoves.{IsWide}
 use Rattle.warehouse.specs.Widening.{KeepsWidened}
-use Rattle.warehouse.proofs.MovedClasses.{hands-start}
+use Rattle.warehouse.proofs.MovedClasses.{arrives, goes_on, is_shallow, is_there, sets_out}
 use Rattle.warehouse.proofs.widening.widen_tree.Goals as goal
 
-then : {T E P Q : Type 0} (r : Result T E) → (P → Q) → OnOk r P → OnOk r Q
-then (Ok x) f h = f h
-then (Err e) f h = tt
+pub places-init : goal.places-init
+places-init g c = record {
+  way = sets_out c.dims-dim.result c.args.tree.now.now c.widen.new.self.now c.args.nodes.now.items c.widen.ensures.nodes
+      c.requires.nodes;
+  frame = ap frame c.widen.ensures.value;
+  steps = omega arith;
+  within = omega arith;
+}
 
-pub move_all_classes-requires-clause-before : goal.move_all_classes-requires-clause-before
-move_all_classes-requires-clause-before g c = (
-  c.args.tree.now.now,
-  subst (λ n. IsWide n c.args.tree.now.now) (sym c.dims-dim.ensures.value) c.requires.wide,
-  hands-start c.dims-dim.result c.args.tree.now.now c.widen.new.self.now c.widen.ensures.nodes,
-)
+pub move_class-requires-clause-node : goal.move_class-requires-clause-node
+move_class-requires-clause-node g c =
+    let before = c.args.tree.now.now in
+    let old = c.args.nodes.now.items in
+    let inv = c.places.invariant in
+    let x = c.index-node.result.now in
+    let wide = subst (λ n. IsWide n before) (sym c.dims-dim.ensures.value) c.requires.wide in
+    let now : slice_get c.places.nodes.items c.places.place ≡ Some x
+    = slice_get-get_or c.places.nodes.items c.places.place x
+    (omega (arith, inv.way.least, c.places-test.true, c.len-place-end.ensures))
+    ∙ ap (λ y. Some y) (sym c.index-node.ensures) in
+    let at : slice_get old c.places.place ≡ Some x
+    = sym (inv.way.front c.places.place (omega (arith, c.places-test.true, c.len-place-end.ensures))) ∙ now in
+    is_there c.dims-dim.result c.places.place before c.places.tree.now old c.places.nodes.items x wide c.requires.nodes
+    inv.way at
+
+pub move_class-requires-clause-room : goal.move_class-requires-clause-room
+move_class-requires-clause-room g c =
+    let before = c.args.tree.now.now in
+    let old = c.args.nodes.now.items in
+    let inv = c.places.invariant in
+    let x = c.index-node.result.now in
+    let wide = subst (λ n. IsWide n before) (sym c.dims-dim.ensures.value) c.requires.wide in
+    let now : slice_get c.places.nodes.items c.places.place ≡ Some x
+    = slice_get-get_or c.places.nodes.items c.places.place x
+    (omega (arith, inv.way.least, c.places-test.true, c.len-place-end.ensures))
+    ∙ ap (λ y. Some y) (sym c.index-node.ensures) in
+    let at : slice_get old c.places.place ≡ Some x
+    = sym (inv.way.front c.places.place (omega (arith, c.places-test.true, c.len-place-end.ensures))) ∙ now in
+    is_shallow c.dims-dim.result c.places.place before c.places.tree.now old c.places.nodes.items x wide c.requires.nodes
+    inv.way at
+
+pub places-preserved : goal.places-preserved
+places-preserved g c =
+    let before = c.args.tree.now.now in
+    let old = c.args.nodes.now.items in
+    let inv = c.places.invariant in
+    let x = c.index-node.result.now in
+    let wide = subst (λ n. IsWide n before) (sym c.dims-dim.ensures.value) c.requires.wide in
+    let now : slice_get c.places.nodes.items c.places.place ≡ Some x
+    = slice_get-get_or c.places.nodes.items c.places.place x
+    (omega (arith, inv.way.least, c.places-test.true, c.len-place-end.ensures))
+    ∙ ap (λ y. Some y) (sym c.index-node.ensures) in
+    let at : slice_get old c.places.place ≡ Some x
+    = sym (inv.way.front c.places.place (omega (arith, c.places-test.true, c.len-place-end.ensures))) ∙ now in
+    record {
+      way = goes_on c.dims-dim.result c.places.place before c.places.tree.now old c.places.nodes.items x wide
+          c.requires.nodes inv.way at c.move_class.new.tree.now c.move_class.new.nodes.items _ refl
+          c.in-Ok.ensures.moved;
+      frame = c.move_class.ensures.frame ∙ inv.frame;
+      steps = omega (arith, inv.steps, c.in-Ok.ensures.steps);
+      within = omega (arith, c.places-test.true, c.len-place-end.ensures);
+    }
 
 pub returns-clause-kept : goal.returns-clause-kept
 returns-clause-kept g c =
     let before = c.args.tree.now.now in
-    let wide = subst (λ n. IsWide n before) (sym c.dims-dim.ensures.value) c.requires.wide in
-    then c.move_all_classes.result
-    (λ kept. subst (λ n. KeepsWidened n before c.move_all_classes.new.tree.now) c.dims-dim.ensures.value
-    (kept before wide (hands-start c.dims-dim.result before c.widen.new.self.now c.widen.ensures.nodes)))
-    c.move_all_classes.ensures.kept
+    subst (λ n. KeepsWidened n before c.places.tree.now) c.dims-dim.ensures.value
+    (arrives c.dims-dim.result c.places.place before c.places.tree.now c.args.nodes.now.items c.places.nodes.items
+    c.requires.nodes (omega (arith, c.places-test.false, c.len-place-end.ensures)) c.places.invariant.way)
