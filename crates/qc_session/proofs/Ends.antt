@@ -195,6 +195,12 @@ module _ {start : State} {script : List ℕ} {files : FilesOver} {out err : Sink
   script-stopped stops.Write start2 bare skipped bare_is start_is k are h said
       = script-broken start2 bare skipped bare_is start_is said.0 k are h.0 h.1 said.1
 
+-- a script that stopped ended with another status
+pub stopped-late : (stop : Stop) (status : ℕ) (P : List ℕ → Type 0) (Q : Type 0)
+    → IfStop stop (λ name. (status ≡ 3) × P name) ((status ≡ 4) × Q) → status ≡ 0 → ⊥
+stopped-late (stops.Read name) status P Q h e = omega (arith, h.0, e)
+stopped-late stops.Write status P Q h e = omega (arith, h.0, e)
+
 none-skipped : (told : Option FileContents) (name ks : List ℕ) → ks ≡ []
     → IfSome told (λ t. MatchOption (t name) (ks ≡ []) (λ script. AreSkipped (script_lines script) ks))
 none-skipped None name ks e = tt

@@ -1,6 +1,7 @@
 mod Answered
 mod BareScripts
 mod Completed
+mod Costs
 mod CutScripts
 mod Ended
 mod FileNamed

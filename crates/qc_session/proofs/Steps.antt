@@ -21,7 +21,7 @@ not_skipped : (number : ℕ) (skipped : List ℕ) → AreUpTo number skipped →
 not_skipped number [] h = refl
 not_skipped number (k ∷ ks) h = rw (not_skipped number ks h.1) (grind (arith, nat_tests, h.0))
 
-skipped_now : (number : ℕ) (skipped : List ℕ) → is_skipped (skipped ++ (number + 1) ∷ []) (number + 1) ≡ true
+pub skipped_now : (number : ℕ) (skipped : List ℕ) → is_skipped (skipped ++ (number + 1) ∷ []) (number + 1) ≡ true
 skipped_now number [] = grind (arith, nat_tests)
 skipped_now number (k ∷ ks) = rw (skipped_now number ks) (grind (arith, nat_tests))
 
@@ -94,7 +94,7 @@ wrote-passed (Some t) skipped number state line kept before passed
     = ([], replies-passed t skipped number state line passed, rw (append-nil kept) (handed-none kept before))
 
 -- a number past all lines makes no difference
-items-later : (skipped : List ℕ) (n k : ℕ) (lines : List (List ℕ)) → n + length lines < k
+pub items-later : (skipped : List ℕ) (n k : ℕ) (lines : List (List ℕ)) → n + length lines < k
     → items (skipped ++ k ∷ []) n lines ≡ items skipped n lines
 unfolding items
 items-later skipped n k [] h = refl
@@ -105,7 +105,7 @@ items-later skipped n k (line ∷ lines) h = rw (later skipped, items-later skip
     later (j ∷ js) = rw (later js) refl
 
 -- one line more
-items-push : (skipped : List ℕ) (n : ℕ) (lines : List (List ℕ)) (line : List ℕ)
+pub items-push : (skipped : List ℕ) (n : ℕ) (lines : List (List ℕ)) (line : List ℕ)
     → items skipped n (lines ++ line ∷ []) ≡ items skipped n lines ++ item skipped (n + length lines + 1) line ∷ []
 unfolding items
 items-push skipped n [] line = let same : n + 1 ≡ n + 0 + 1 = omega arith in ap (λ m. item skipped m line ∷ []) same
@@ -132,7 +132,7 @@ took-push t start skipped lines line state replies state2 reply took r =
           ∙ r.is replies;
     }
 
-took-skips : (t : FileContents) (start : State) (skipped new : List ℕ) (lines : List (List ℕ)) (line : List ℕ)
+pub took-skips : (t : FileContents) (start : State) (skipped new : List ℕ) (lines : List (List ℕ)) (line : List ℕ)
     (state : PinnedState) (replies : List ℕ) → Skips skipped (length lines + 1) line new
     → Took t start skipped lines state replies → Took t start new lines state replies
 unfolding transcript

@@ -14,3 +14,4 @@ pub mod Packs
 pub mod Reading
 pub mod Ends
 pub mod Ran
+pub mod Costs

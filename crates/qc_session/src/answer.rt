@@ -8,6 +8,7 @@ ghost use Rattle.warehouse.specs.Batch as batches;
 ghost use Rattle.warehouse.specs.InPlace.{IsAccepted, IsWithinCost, LeavesOtherRecords, LeavesNumbers};
 ghost use Rattle.warehouse.specs.State.{State};
 ghost use Rattle.qc_session.specs.Answers.{answer, answer_to, with_pins, change_answer, file_answer, file_named, file_of};
+ghost use Rattle.qc_session.specs.Costs.{IsWithin, batch_cost, line_cost, query_cost, question_cost};
 ghost use Rattle.qc_session.specs.Pins.{pinned_state_in};
 ghost use Rattle.query_answers.specs.Queries.{query_reply};
 ghost use Rattle.query_script.specs.Commands.{IsQuery};
@@ -165,8 +166,7 @@ fn answer_file<F: Files, L: Ledger>(
         → LeavesOtherRecords pinned.old.now bytes pinned.new.now)) }
     ensures steps { OnOk result (IfSome (F.told files.old)
         (λ t. IfSome (t line.name) (λ bytes. kind_in line.kind ≡ batches.Apply
-        → IsAccepted pinned.old.now.state bytes →
-        IsWithinCost pinned.old.now.state bytes steps.old steps.new))) }
+        → IsWithin (batch_cost pinned.old.now.state bytes) steps.old steps.new))) }
 {
     let FileLine { kind, name } = line;
     match read_all(alloc, files, name.as_str(), MAX_FILE) {
@@ -192,6 +192,8 @@ fn present_reply<L: Ledger>(
     ensures reply { IfOk result
         (λ reply. reply_bytes reply ≡ query_reply pinned.now.now.state number (query_in query)) }
     ensures memory { OnErr result (query_in query ≢ queries.Stats) }
+    ensures steps { OnOk result
+        (IsWithin (query_cost pinned.now.now.state (query_in query)) steps.old steps.new) }
 {
     answer_present(alloc, pinned.now(), number, &query, steps)
 }
@@ -211,6 +213,9 @@ fn answer_without_file<L: Ledger>(
     ensures answered { IfOk result (λ reply. (t : FileContents)
         → answer_to (pinned_state_in pinned.old) t number (Ok (question_in command))
         ≡ Some (record { state = pinned_state_in pinned.new; reply = reply_bytes reply })) }
+    ensures steps { OnOk result ((t : FileContents)
+        → IsWithin (question_cost pinned.old.now.state t (Ok (question_in command)))
+        steps.old steps.new) }
 {
     match command {
         Command::Widen(name, value) => answer_widen(pinned, number, &name, &value, steps),
@@ -246,6 +251,9 @@ fn answer_command<F: Files, L: Ledger>(
     ensures answered { IfOk result (λ reply. IfSome (F.told files.old)
         (λ t. answer_to (pinned_state_in pinned.old) t number (Ok (question_in command))
         ≡ Some (record { state = pinned_state_in pinned.new; reply = reply_bytes reply }))) }
+    ensures steps { OnOk result (IfSome (F.told files.old)
+        (λ t. IsWithin (question_cost pinned.old.now.state t (Ok (question_in command)))
+        steps.old steps.new)) }
 {
     match command {
         Command::Load(name) => {
@@ -290,6 +298,8 @@ pub fn answer_line<F: Files, L: Ledger>(
     ensures answered { IfOk result (λ reply. IfSome (F.told files.old)
         (λ t. answer (pinned_state_in pinned.old) t number line.now
         ≡ Some (record { state = pinned_state_in pinned.new; reply = reply_bytes reply }))) }
+    ensures steps { OnOk result (IfSome (F.told files.old)
+        (λ t. IsWithin (line_cost pinned.old.now.state t line.now) steps.old steps.new)) }
 {
     match read_line(alloc, pinned.now().schema(), line) {
         Ok(command) => answer_command(alloc, files, pinned, number, command, steps),

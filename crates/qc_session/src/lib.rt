@@ -14,5 +14,5 @@ mod status;
 mod widening;
 mod words;
 
-pub use scripts::{Outcome, run, run_with_keys};
+pub use scripts::{Outcome, run, run_counted, run_with_keys};
 pub use status::run_to_status;

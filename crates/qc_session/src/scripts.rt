@@ -48,6 +48,7 @@ impl Outcome {
     }
 }
 
+ghost use Rattle.qc_session.specs.Costs.{IsWithin, IsWithinScript, script_cost};
 ghost use Rattle.qc_session.specs.Ends.{GenEnds, ReturnsWarehouse, PackEnds, PackScriptEnds, RunEnds, ScriptEnds, SnapshotEnds, files_over, sink_over};
 ghost use Rattle.qc_session.specs.Failures.{cause_of};
 ghost use Rattle.qc_session.specs.Quiet.{IfQuietStop};
@@ -280,20 +281,16 @@ fn broken_off<E: Sink>(err: &mut E, stop: Stop, session: Session) -> Outcome
     }
 }
 
-// Carries out the lines of a script, starting from a state. The steps are counted for the ledger
-// that the blank names.
+// Carries out the lines of a script, starting from a state.
 fn run_script<F: Files, O: Sink, E: Sink, L: Ledger>(
     alloc: Global,
     files: &mut F,
     out: &mut O,
     err: &mut E,
     loaded: Loaded,
-    blank: Blank,
+    steps: &mut Steps<L>,
 ) -> Outcome
-    requires short { length loaded.script.items ≤ MAX_FILE }
-    requires name { blank.name ≡ L.name }
-    requires parts { blank.parts ≡ L.parts }
-    requires some { 0 < L.parts }
+    requires { length loaded.script.items ≤ MAX_FILE }
     ensures ends { ScriptEnds loaded.start.state loaded.script.items
         (files_over (F.told files.old) (F.steady files.old) (F.faults files.old)
         (F.faults files.new) (F.cursor files.old) (F.cursor files.new))
@@ -301,14 +298,16 @@ fn run_script<F: Files, O: Sink, E: Sink, L: Ledger>(
         (sink_over (E.faults err.old) (E.faults err.new) (E.taken err.old) (E.taken err.new))
         (err.new ≡ err.old) result }
     ensures hands { ReturnsWarehouse result }
+    ensures steps { result.status ≡ 0 → IfSome (F.told files.old)
+        (λ t. IsWithin (script_cost t loaded.start.state result.skipped.items
+        (script_lines loaded.script.items)) steps.old steps.new) }
 {
     let Loaded { start, script } = loaded;
     let script = trim_byte_order_mark(&script);
     let Ok(mut session) = begin(alloc, start, script) else {
         return fail(alloc, err, &Failure::OutOfMemory);
     };
-    let mut steps = Steps::<L>::start(blank);
-    match take_lines(alloc, files, out, &mut session, script, &mut steps) {
+    match take_lines(alloc, files, out, &mut session, script, steps) {
         Ok(()) => finished(session),
         Err(stop) => broken_off(err, stop, session),
     }
@@ -329,28 +328,23 @@ fn generated_outcome(alloc: Global, warehouse: Warehouse) -> Outcome
     }
 }
 
-// Makes a warehouse of so many drawn rows, and writes its record. The steps are counted for the
-// ledger that the blank names.
+// Makes a warehouse of so many drawn rows, and writes its record.
 fn run_generated<O: Sink, E: Sink, L: Ledger>(
     alloc: Global,
     out: &mut O,
     err: &mut E,
     rows: u32,
     seed: u64,
-    blank: Blank,
+    steps: &mut Steps<L>,
 ) -> Outcome
-    requires rows { rows ≤ MAX_ROWS }
-    requires name { blank.name ≡ L.name }
-    requires parts { blank.parts ≡ L.parts }
-    requires some { 0 < L.parts }
+    requires { rows ≤ MAX_ROWS }
     ensures ends { GenEnds (record { rows = rows; seed = seed })
         (sink_over (O.faults out.old) (O.faults out.new) (O.taken out.old) (O.taken out.new))
         (sink_over (E.faults err.old) (E.faults err.new) (E.taken err.old) (E.taken err.new))
         (err.new ≡ err.old) result }
     ensures hands { ReturnsWarehouse result }
 {
-    let mut steps = Steps::<L>::start(blank);
-    let Ok(generated) = generate(alloc, rows, seed, &mut steps) else {
+    let Ok(generated) = generate(alloc, rows, seed, steps) else {
         return fail(alloc, err, &Failure::OutOfMemory);
     };
     let text = generated.text;
@@ -414,19 +408,16 @@ fn pack_stopped<E: Sink>(alloc: Global, err: &mut E, stop: SilentStop) -> Outcom
 }
 
 // Carries out the lines of a script, starting from a state, without their replies. Writes the
-// snapshot of the state after them. The steps are counted for the ledger that the blank names.
+// snapshot of the state after them.
 fn pack_script<F: Files, O: Sink, E: Sink, L: Ledger>(
     alloc: Global,
     files: &mut F,
     out: &mut O,
     err: &mut E,
     loaded: Loaded,
-    blank: Blank,
+    steps: &mut Steps<L>,
 ) -> Outcome
-    requires short { length loaded.script.items ≤ MAX_FILE }
-    requires name { blank.name ≡ L.name }
-    requires parts { blank.parts ≡ L.parts }
-    requires some { 0 < L.parts }
+    requires { length loaded.script.items ≤ MAX_FILE }
     ensures ends { PackScriptEnds loaded.start.state loaded.script.items
         (files_over (F.told files.old) (F.steady files.old) (F.faults files.old)
         (F.faults files.new) (F.cursor files.old) (F.cursor files.new))
@@ -440,8 +431,7 @@ fn pack_script<F: Files, O: Sink, E: Sink, L: Ledger>(
     let Ok(mut session) = begin(alloc, start, script) else {
         return fail(alloc, err, &Failure::OutOfMemory);
     };
-    let mut steps = Steps::<L>::start(blank);
-    match run_silently(alloc, files, &mut session, script, &mut steps) {
+    match run_silently(alloc, files, &mut session, script, steps) {
         Ok(()) => pack_finished(alloc, out, err, session.pinned.finish()),
         Err(stop) => {
             session.discard();
@@ -450,16 +440,23 @@ fn pack_script<F: Files, O: Sink, E: Sink, L: Ledger>(
     }
 }
 
-// Reads a schema and a script, and writes the snapshot of the state after the script's lines.
-fn pack_files<F: Files, O: Sink, E: Sink>(
-    alloc: Global,
+// What the first file and the script bring: their names, and the keys under which it is hashed.
+#[derive(Clone, Copy)]
+struct Input<'a> {
     keys: HashKeys,
+    names: InputFiles<'a>,
+}
+
+// Reads a schema and a script, and writes the snapshot of the state after the script's lines.
+fn pack_files<F: Files, O: Sink, E: Sink, L: Ledger>(
+    alloc: Global,
     files: &mut F,
     out: &mut O,
     err: &mut E,
-    names: InputFiles<'_>,
+    input: Input<'_>,
+    steps: &mut Steps<L>,
 ) -> Outcome
-    ensures ends { PackEnds (names_in names.entry)
+    ensures ends { PackEnds (names_in input.entry.names)
         (files_over (F.told files.old) (F.steady files.old) (F.faults files.old)
         (F.faults files.new) (F.cursor files.old) (F.cursor files.new))
         (sink_over (O.faults out.old) (O.faults out.new) (O.taken out.old) (O.taken out.new))
@@ -467,35 +464,95 @@ fn pack_files<F: Files, O: Sink, E: Sink>(
         (err.new ≡ err.old) result }
     ensures hands { ReturnsWarehouse result }
 {
-    match read_files::<F, Brand>(alloc, keys, files, names, Blank::new(1)) {
-        Ok(loaded) => {
-            pack_script::<F, O, E, Brand>(alloc, files, out, err, loaded, Blank::new(1))
-        }
+    match read_files::<F, Brand>(alloc, input.keys, files, input.names, Blank::new(1)) {
+        Ok(loaded) => pack_script(alloc, files, out, err, loaded, steps),
         Err(failure) => fail(alloc, err, &failure),
     }
 }
 
-// Reads the first file and a script, and carries out the script's lines.
-fn run_files<F: Files, O: Sink, E: Sink>(
+// Reads the first file and a script, and carries out the script's lines. What is read is counted
+// apart, from 0.
+fn run_files<F: Files, O: Sink, E: Sink, L: Ledger>(
     alloc: Global,
-    keys: HashKeys,
     files: &mut F,
     out: &mut O,
     err: &mut E,
-    names: InputFiles<'_>,
+    input: Input<'_>,
+    steps: &mut Steps<L>,
 ) -> Outcome
-    ensures ends { RunEnds (names_in names.entry)
+    ensures ends { RunEnds (names_in input.entry.names)
         (files_over (F.told files.old) (F.steady files.old) (F.faults files.old)
         (F.faults files.new) (F.cursor files.old) (F.cursor files.new))
         (sink_over (O.faults out.old) (O.faults out.new) (O.taken out.old) (O.taken out.new))
         (sink_over (E.faults err.old) (E.faults err.new) (E.taken err.old) (E.taken err.new))
         (err.new ≡ err.old) result }
     ensures hands { ReturnsWarehouse result }
+    ensures steps { result.status ≡ 0 → IfSome (F.told files.old)
+        (λ t. IsWithinScript t (names_in input.entry.names) result.skipped.items
+        steps.old steps.new) }
 {
-    match read_files::<F, Brand>(alloc, keys, files, names, Blank::new(1)) {
-        Ok(loaded) => run_script::<F, O, E, Brand>(alloc, files, out, err, loaded, Blank::new(1)),
+    match read_files::<F, Brand>(alloc, input.keys, files, input.names, Blank::new(1)) {
+        Ok(loaded) => run_script(alloc, files, out, err, loaded, steps),
         Err(failure) => fail(alloc, err, &failure),
     }
+}
+
+// The words of a run, and the keys under which what the files bring is hashed.
+#[derive(Clone, Copy)]
+struct Request<'a> {
+    keys: HashKeys,
+    words: &'a [String],
+}
+
+// Carries out a request.
+fn run_request<F: Files, O: Sink, E: Sink, L: Ledger>(
+    alloc: Global,
+    request: Request<'_>,
+    files: &mut F,
+    out: &mut O,
+    err: &mut E,
+    steps: &mut Steps<L>,
+) -> Outcome
+    ensures ran { Ran (form_of request.entry.words.now)
+        (files_over (F.told files.old) (F.steady files.old) (F.faults files.old)
+        (F.faults files.new) (F.cursor files.old) (F.cursor files.new))
+        (sink_over (O.faults out.old) (O.faults out.new) (O.taken out.old) (O.taken out.new))
+        (sink_over (E.faults err.old) (E.faults err.new) (E.taken err.old) (E.taken err.new))
+        (files.new ≡ files.old) (out.new ≡ out.old) (err.new ≡ err.old) result }
+    ensures steps { result.status ≡ 0
+        → IfRun (form_of request.entry.words.now) (λ names. IfSome (F.told files.old)
+        (λ t. IsWithinScript t names result.skipped.items steps.old steps.new)) }
+{
+    let keys = request.keys;
+    match read_words(request.words) {
+        Form::Run(names) => run_files(alloc, files, out, err, Input { keys, names }, steps),
+        Form::Pack(names) => pack_files(alloc, files, out, err, Input { keys, names }, steps),
+        Form::Gen(rows, seed) => run_generated(alloc, out, err, rows, seed, steps),
+        Form::Invalid => fail(alloc, err, &Failure::Usage),
+    }
+}
+
+// Carries out a request. The steps are counted for the ledger that the blank names.
+fn run_on<F: Files, O: Sink, E: Sink, L: Ledger>(
+    alloc: Global,
+    request: Request<'_>,
+    files: &mut F,
+    out: &mut O,
+    err: &mut E,
+    blank: Blank,
+) -> Outcome
+    requires name { blank.name ≡ L.name }
+    requires parts { blank.parts ≡ L.parts }
+    requires some { 0 < L.parts }
+    ensures { Ran (form_of request.entry.words.now)
+        (files_over (F.told files.old) (F.steady files.old) (F.faults files.old)
+        (F.faults files.new) (F.cursor files.old) (F.cursor files.new))
+        (sink_over (O.faults out.old) (O.faults out.new) (O.taken out.old) (O.taken out.new))
+        (sink_over (E.faults err.old) (E.faults err.new) (E.taken err.old) (E.taken err.new))
+        (files.new ≡ files.old) (out.new ≡ out.old) (err.new ≡ err.old) result }
+{
+    let mut steps = Steps::<L>::start(blank);
+    run_request(alloc, request, files, out, err, &mut steps)
 }
 
 /// Does what `run` does. What the files bring is hashed under these keys, which change no answer.
@@ -514,14 +571,36 @@ pub fn run_with_keys<F: Files, O: Sink, E: Sink>(
         (sink_over (E.faults err.old) (E.faults err.new) (E.taken err.old) (E.taken err.new))
         (files.new ≡ files.old) (out.new ≡ out.old) (err.new ≡ err.old) result }
 {
-    match read_words(words) {
-        Form::Run(names) => run_files(alloc, keys, files, out, err, names),
-        Form::Pack(names) => pack_files(alloc, keys, files, out, err, names),
-        Form::Gen(rows, seed) => {
-            run_generated::<O, E, Brand>(alloc, out, err, rows, seed, Blank::new(1))
-        }
-        Form::Invalid => fail(alloc, err, &Failure::Usage),
-    }
+    let request = Request { keys, words };
+    run_on::<F, O, E, Brand>(alloc, request, files, out, err, Blank::new(1))
+}
+
+/// Does what `run` does, and counts the steps of a script's lines, of `pack`'s too, and of the rows
+/// that `gen` makes. What it takes to read the first file isn't counted here.
+///
+/// At status 0 the lines of a run of `run` or `open` took at most the steps that they may cost,
+/// where each of them has a bound (`script_cost`). An applied batch costs what its changes may, and
+/// so the tree isn't built from scratch for it.
+pub fn run_counted<F: Files, O: Sink, E: Sink, L: Ledger>(
+    alloc: Global,
+    words: &[String],
+    files: &mut F,
+    out: &mut O,
+    err: &mut E,
+    steps: &mut Steps<L>,
+) -> Outcome
+    ensures ran { Ran (form_of words.now)
+        (files_over (F.told files.old) (F.steady files.old) (F.faults files.old)
+        (F.faults files.new) (F.cursor files.old) (F.cursor files.new))
+        (sink_over (O.faults out.old) (O.faults out.new) (O.taken out.old) (O.taken out.new))
+        (sink_over (E.faults err.old) (E.faults err.new) (E.taken err.old) (E.taken err.new))
+        (files.new ≡ files.old) (out.new ≡ out.old) (err.new ≡ err.old) result }
+    ensures steps { result.status ≡ 0
+        → IfRun (form_of words.now) (λ names. IfSome (F.told files.old)
+        (λ t. IsWithinScript t names result.skipped.items steps.old steps.new)) }
+{
+    let keys = HashKeys::fixed();
+    run_request(alloc, Request { keys, words }, files, out, err, steps)
 }
 
 /// Runs `qcube` with these words.

@@ -1,6 +1,8 @@
 // The lines of a script, in order.
-ghost use Rattle.std.specs.Prelude.{◌≡◌, ◌≤◌, ◌<◌, ◌^◌, ◌+◌, ◌++◌, [], IfOk, IsTrue, false, length, map, vec_len, vec_capacity};
+ghost use Rattle.std.specs.Prelude.{◌≡◌, ◌≤◌, ◌<◌, ◌^◌, ◌+◌, ◌++◌, ◌∷◌, [], IfOk, IfSome, IsTrue, OnOk, false, length, map, vec_len, vec_capacity};
 ghost use Rattle.qc_io.specs.Outside.{Rose};
+ghost use Rattle.reply_text.specs.Replies.{memory_text};
+ghost use Rattle.qc_session.specs.Costs.{IsWithin, item_cost, script_cost};
 ghost use Rattle.qc_session.specs.Lines.{is_passed, lines_of, without_cr};
 ghost use Rattle.qc_session.specs.Reading.{FilesStay};
 
@@ -48,6 +50,7 @@ impl Session {
 
 ghost use Rattle.qc_session.specs.Runs.{AreUpTo};
 ghost use Rattle.qc_session.specs.Session.{LineEnds, LinesEnd, Puts};
+ghost use Rattle.qc_session.specs.Transcript.{item};
 
 // Gathers a reply, and flushes all if it is not to wait.
 fn put_reply<O: Sink>(
@@ -66,9 +69,28 @@ fn put_reply<O: Sink>(
     }
 }
 
+// Skips a line that ran out of memory, and gathers its reply.
+fn skip_line<O: Sink>(session: &mut Session, out: &mut O, at_once: bool) -> Result<(), Stop>
+    requires room { vec_len session.old.skipped < vec_capacity session.old.skipped }
+    requires number { session.old.number + 1 < 2 ^ 32 }
+    ensures later { O.faults out.old ≤ O.faults out.new }
+    ensures kept { (session.new.number ≡ session.old.number)
+        × (session.new.pinned ≡ session.old.pinned)
+        × (vec_capacity session.old.skipped ≤ vec_capacity session.new.skipped) }
+    ensures skipped { session.new.skipped.items
+        ≡ session.old.skipped.items ++ (session.old.number + 1) ∷ [] }
+    ensures puts { Puts (Rose (O.faults out.old) (O.faults out.new))
+        (session.old.pending ++ memory_text (session.old.number + 1)) session.new.pending
+        (O.taken out.old) (O.taken out.new) result }
+{
+    let number = session.number + 1;
+    session.skipped.push(number).unwrap();
+    let reply = memory_reply(number);
+    put_reply(&mut session.pending, out, reply.as_bytes(), at_once)
+}
+
 // Carries out a line that isn't ignored, and gathers its reply. Before and after a line that names
-// a
-// file all replies are flushed, and at a stop none is left.
+// a file all replies are flushed, and at a stop none is left.
 fn carry_out<F: Files, O: Sink, L: Ledger>(
     alloc: Global,
     files: &mut F,
@@ -89,6 +111,9 @@ fn carry_out<F: Files, O: Sink, L: Ledger>(
         (Rose (F.faults files.old) (F.faults files.new))
         (Rose (O.faults out.old) (O.faults out.new))
         line.now session.old session.new (O.taken out.old) (O.taken out.new) result }
+    ensures steps { OnOk result (IfSome (F.told files.old)
+        (λ t. IsWithin (item_cost session.old.pinned.now.state t
+        (item session.new.skipped.items (session.old.number + 1) line.now)) steps.old steps.new)) }
 {
     let number = session.number + 1;
     let alone = names_file(line);
@@ -97,11 +122,7 @@ fn carry_out<F: Files, O: Sink, L: Ledger>(
     };
     match answer_line(alloc, files, &mut session.pinned, number, line, steps) {
         Ok(reply) => put_reply(&mut session.pending, out, reply.as_bytes(), alone),
-        Err(LineStop::Memory) => {
-            session.skipped.push(number).unwrap();
-            let reply = memory_reply(number);
-            put_reply(&mut session.pending, out, reply.as_bytes(), alone)
-        }
+        Err(LineStop::Memory) => skip_line(session, out, alone),
         Err(LineStop::Fault(name)) => match session.pending.flush(out) {
             Ok(()) => Err(Stop::Read(name)),
             Err(_) => Err(Stop::Write),
@@ -129,12 +150,15 @@ fn take_line<F: Files, O: Sink, L: Ledger>(
         (Rose (F.faults files.old) (F.faults files.new))
         (Rose (O.faults out.old) (O.faults out.new))
         line.now session.old session.new (O.taken out.old) (O.taken out.new) result }
+    ensures steps { OnOk result (IfSome (F.told files.old)
+        (λ t. IsWithin (item_cost session.old.pinned.now.state t
+        (item session.new.skipped.items (session.old.number + 1) line.now)) steps.old steps.new)) }
 {
     if is_ignored(line) {
         return Ok(());
     }
     let number = session.number + 1;
-    if answer_plain_point(
+    match answer_plain_point(
         alloc,
         session.pinned.now(),
         number,
@@ -142,9 +166,10 @@ fn take_line<F: Files, O: Sink, L: Ledger>(
         &mut session.reply,
         steps,
     ) {
-        return put_reply(&mut session.pending, out, &session.reply, false);
+        None => carry_out(alloc, files, out, session, line, steps),
+        Some(Ok(())) => put_reply(&mut session.pending, out, &session.reply, false),
+        Some(Err(_)) => skip_line(session, out, false),
     }
-    carry_out(alloc, files, out, session, line, steps)
 }
 
 // The number of lines of a text.
@@ -214,11 +239,14 @@ pub fn take_lines<F: Files, O: Sink, L: Ledger>(
     requires short { length script.now ≤ MAX_FILE }
     requires fresh { (session.old.number ≡ 0) × (session.old.skipped.items ≡ [])
         × (session.old.pending ≡ []) × (session.old.pinned.pins ≡ []) }
-    ensures { LinesEnd (F.told files.old) (IsTrue (F.steady files.old))
+    ensures ends { LinesEnd (F.told files.old) (IsTrue (F.steady files.old))
         (Rose (F.faults files.old) (F.faults files.new))
         (Rose (O.faults out.old) (O.faults out.new))
         (map without_cr (lines_of script.now)) session.old session.new (O.taken out.old)
         (O.taken out.new) result }
+    ensures steps { OnOk result (IfSome (F.told files.old)
+        (λ t. IsWithin (script_cost t session.old.pinned.now.state session.new.skipped.items
+        (map without_cr (lines_of script.now))) steps.old steps.new)) }
 {
     let mut rest = script;
     'lines: while !rest.is_empty() {

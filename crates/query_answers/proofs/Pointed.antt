@@ -1,6 +1,6 @@
 -- The answer to a point that was read into codes.
-use Rattle.std.proofs.Common.{◌≡◌, ◌∙◌, ℕ, Option, Some, None, List, length, refl, sym, ap, ap₂}
-use Rattle.std.specs.Prelude.{IfSome, Ok, option_map}
+use Rattle.std.proofs.Common.{◌≡◌, ◌∙◌, ℕ, Option, Some, None, List, length, refl, sym, ap, ap₂, true}
+use Rattle.std.specs.Prelude.{Err, IfSome, Ok, OnErr, Result, option_map}
 use Rattle.std.specs.Ordering.{eq_by_cmp, nat_cmp}
 use Rattle.cube_defs.specs.Text.{text_eq}
 use Rattle.cube_defs.specs.Cell.{Cell}
@@ -10,8 +10,10 @@ use Rattle.aggregates.specs.declared.agg.Agg as shown
 use Rattle.cell_core.specs.declared.fields.Field.{Field}
 use Rattle.query_script.specs.Coded.{IsPoint}
 use Rattle.query_script.specs.Commands.{command_in}
+use Rattle.query_script.specs.Lines.{may_want_memory}
 use Rattle.query_script.specs.Queries.{Point}
 use Rattle.query_script.specs.Questions.{Ask}
+use Rattle.query_script.proofs.CallerLemmas.{line-wants}
 use Rattle.reply_text.specs.Replies.{none_text, point_reply}
 use Rattle.value_dict.specs.Decoded.{HasTexts, decoded_cell}
 use Rattle.warehouse.specs.State.{IsState, State, source_of}
@@ -62,3 +64,13 @@ pub point-known : (s : State) (is : IsState s) (line : List ℕ) (number : ℕ) 
 point-known s is line number cell p total at reply e =
     let cells = asked-told s.texts s.texts p.asked cell refl (p.count ∙ sym is.consistent.lists) p.each p.codes in
     (p.asked, p.command, e ∙ ap₂ (point_reply s.schema number) cells (total-is s is line cell p total at))
+
+-- its answer may want memory
+pub point-wants : (s : State) (line : List ℕ) (found : Option (Cell ℕ)) → IsPoint s.schema s.texts line found
+    → may_want_memory line ≡ true
+point-wants s line found p = line-wants s.schema line (Ask (Point p.asked)) p.command refl
+
+-- what holds at any end holds at an error
+pub on-err : {T E P : Type 0} (r : Result T E) → P → OnErr r P
+on-err (Ok x) p = tt
+on-err (Err e) p = p

@@ -140,7 +140,7 @@ IsWithinSteps state has_index (queries.Bounds asked) before after
 IsWithinSteps state has_index (queries.Iceberg kind bound value) before after =
     has_index kind ≡ true → after ≤ before
     + length (classes_of state (kind_in kind) (bound_in bound) (fraction_in value)) * steps_of_class state.schema
-IsWithinSteps state has_index queries.Stats before after = ⊤
+IsWithinSteps state has_index queries.Stats before after = after ≤ before
 IsWithinSteps state has_index (queries.Parents asked) before after = ⊤
 IsWithinSteps state has_index (queries.Children asked) before after = ⊤
 IsWithinSteps state has_index (queries.Rollup kind bound value asked) before after = ⊤

@@ -1,11 +1,12 @@
 // The answer to a point.
-ghost use Rattle.std.specs.Prelude.{All, IfOk, IfSome, List, Ok, length, option_map, true, ◌*◌, ◌+◌, ◌≡◌, ◌≤◌};
+ghost use Rattle.std.specs.Prelude.{All, IfOk, IfSome, List, None, Ok, OnErr, OnOk, length, option_map, true, ◌*◌, ◌+◌, ◌≡◌, ◌≤◌};
 ghost use Rattle.aggregates.specs.Views.{agg_in};
 ghost use Rattle.cell_core.specs.declared.fields.Field as asks;
 ghost use Rattle.cube_defs.specs.Rows.{Row};
 ghost use Rattle.cube_defs.specs.Text.{Text, text_eq};
 ghost use Rattle.cube_laws.specs.Total.{agg_at};
 ghost use Rattle.query_script.specs.Commands.{command_in};
+ghost use Rattle.query_script.specs.Lines.{may_want_memory};
 ghost use Rattle.query_script.specs.Queries.{Point};
 ghost use Rattle.query_script.specs.Questions.{Ask};
 ghost use Rattle.query_answers.specs.Queries.{AsksForCell, cell_of_fields, point_answer};
@@ -84,30 +85,28 @@ pub(crate) fn answer_point<T: Nodes, L: Ledger>(
     Ok(Reply::Long(reply))
 }
 
-// Replaces the reply by `none_reply`. False if out of memory.
-fn put_none(number: u32, reply: &mut Vec<u8>) -> bool
-    ensures { result ≡ true → reply.new.items ≡ none_text number }
+// Replaces the reply by `none_reply`.
+fn put_none(number: u32, reply: &mut Vec<u8>) -> Result<(), Memory>
+    ensures { OnOk result (reply.new.items ≡ none_text number) }
 {
     reply.clear();
-    reply
-        .extend_from_slice(none_reply(number).as_bytes())
-        .is_ok()
+    reply.extend_from_slice(none_reply(number).as_bytes())
 }
 
-// Replaces the reply by that of a cell with this aggregate. False if out of memory.
+// Replaces the reply by that of a cell with this aggregate.
 fn put_total(
     warehouse: &Warehouse,
     number: u32,
     cell: &Cell,
     total: &Agg,
     reply: &mut Vec<u8>,
-) -> bool
+) -> Result<(), Memory>
     requires texts { HasTexts warehouse.now.state.texts cell.now }
     requires parts { length (agg_in total.now).parts ≡ length warehouse.now.state.schema.measures }
-    ensures { result ≡ true
-        → reply.new.items ≡ point_text number (decoded_cell warehouse.now.state.texts cell.now)
+    ensures { OnOk result
+        (reply.new.items ≡ point_text number (decoded_cell warehouse.now.state.texts cell.now)
         warehouse.now.state.schema.measures
-        (agg_in total.now) }
+        (agg_in total.now)) }
 {
     reply.clear();
     push_point(
@@ -118,12 +117,11 @@ fn put_total(
         cell,
         total,
     )
-    .is_ok()
 }
 
 /// Answers a line that is a point without quotes, over the present rows, and replaces the reply by
-/// its own. False if the line isn't one, or if out of memory. With n dimensions it takes at most 2n
-/// + 3 steps.
+/// its own. None if the line isn't one: then no step is taken. With n dimensions it takes at most
+/// 2n + 3 steps.
 pub fn answer_plain_point<L: Ledger>(
     alloc: Global,
     warehouse: &Warehouse,
@@ -131,20 +129,22 @@ pub fn answer_plain_point<L: Ledger>(
     line: &[u8],
     reply: &mut Vec<u8>,
     steps: &mut Steps<L>,
-) -> bool
-    ensures answered { result ≡ true → (asked : List asks.Field)
+) -> Option<Result<(), Memory>>
+    ensures answered { IfSome result (λ done. OnOk done ((asked : List asks.Field)
         × (command_in warehouse.now.state.schema line.now ≡ Ok (Ask (Point asked)))
-        × (reply.new.items ≡ point_answer warehouse.now.state number (cell_of_fields asked)) }
+        × (reply.new.items ≡ point_answer warehouse.now.state number (cell_of_fields asked)))) }
+    ensures memory { IfSome result (λ done. OnErr done (may_want_memory line.now ≡ true)) }
+    ensures unread { result ≡ None → steps.new ≡ steps.old }
     ensures steps { steps.new ≤ steps.old + (2 * length warehouse.now.state.schema.dims + 3) }
 {
     let dict = warehouse.dict();
     let mut cell = Cell::any(alloc, dict.dims());
     match read_point_codes(warehouse.schema(), dict, line, &mut cell) {
-        PointRead::Unread => false,
-        PointRead::Unknown => put_none(number, reply),
+        PointRead::Unread => None,
+        PointRead::Unknown => Some(put_none(number, reply)),
         PointRead::Known => match total_at(warehouse.tree(), &cell, steps) {
-            Some(total) => put_total(warehouse, number, &cell, &total, reply),
-            None => put_none(number, reply),
+            Some(total) => Some(put_total(warehouse, number, &cell, &total, reply)),
+            None => Some(put_none(number, reply)),
         },
     }
 }

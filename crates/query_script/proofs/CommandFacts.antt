@@ -341,7 +341,7 @@ named-wants layout word rest q e =
     let e = next_test _ (bytes_eq word (codes "at")) _ _ e in
     last_test _ (names_query word) _ e (present-wants layout word rest (query_named layout word rest) q refl)
 
-line-wants : (layout : Layout) (line : List ℕ) (q : Question) → command_in layout line ≡ Ok q → wants_memory q ≡ true
+pub line-wants : (layout : Layout) (line : List ℕ) (q : Question) → command_in layout line ≡ Ok q → wants_memory q ≡ true
     → may_want_memory line ≡ true
 line-wants layout line q h wants = by (is_utf8 line) (bytes_eq line stats_line) h
   where

@@ -8,3 +8,4 @@ mod CodedFields
 pub mod PinNames
 mod AtNames
 mod Wanting
+pub mod CallerLemmas

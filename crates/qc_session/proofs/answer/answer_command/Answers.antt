@@ -1,6 +1,8 @@
 use Rattle.std.proofs.Common.{refl}
+use Rattle.std.proofs.lemmas.Result.{on_ok_weaker}
 use Rattle.qc_io.specs.Outside.{Rose}
-use Rattle.qc_session.proofs.Answered.{for_told}
+use Rattle.qc_session.proofs.Answered.{for_told, on-ok}
+use Rattle.qc_session.proofs.Costs.{file-within}
 use Rattle.qc_session.proofs.NoFile.{names-none}
 use Rattle.qc_session.proofs.Stopped.{fault-named, memory-wanted}
 use Rattle.qc_session.proofs.answer.answer_command.Goals as goal
@@ -11,6 +13,9 @@ answer_without_file-requires-clause-unnamed g c
 
 pub returns-in-Ok-clause-answered : goal.returns-in-Ok-clause-answered
 returns-in-Ok-clause-answered g c = for_told (g.F.Files.told c.args.files.now) _ c.in-Ok.ensures.answered
+
+pub returns-in-Ok-clause-steps : goal.returns-in-Ok-clause-steps
+returns-in-Ok-clause-steps g c = for_told (g.F.Files.told c.args.files.now) _ c.in-Ok.ensures.steps
 
 pub returns-in-Load : goal.returns-in-Load
 returns-in-Load g c =
@@ -25,6 +30,7 @@ returns-in-Load g c =
           (Rose (g.F.Files.faults c.args.files.now) (g.F.Files.faults c.answer_file.new.files)) e.fault;
       untold = e.untold;
       answered = e.answered;
+      steps = on-ok c.answer_file.result _ (for_told (g.F.Files.told c.args.files.now) _ (λ t. tt));
     })
 
 pub returns-in-Apply : goal.returns-in-Apply
@@ -40,6 +46,7 @@ returns-in-Apply g c =
           (Rose (g.F.Files.faults c.args.files.now) (g.F.Files.faults c.answer_file-in-Apply.new.files)) e.fault;
       untold = e.untold;
       answered = e.answered;
+      steps = on_ok_weaker c.answer_file-in-Apply.result (file-within (g.F.Files.told c.args.files.now) c.in-Apply.name _ _ _) e.steps;
     })
 
 pub returns-in-Try : goal.returns-in-Try
@@ -55,4 +62,5 @@ returns-in-Try g c =
           (Rose (g.F.Files.faults c.args.files.now) (g.F.Files.faults c.answer_file-in-Try.new.files)) e.fault;
       untold = e.untold;
       answered = e.answered;
+      steps = on_ok_weaker c.answer_file-in-Try.result (file-within (g.F.Files.told c.args.files.now) c.in-Try.name _ _ _) e.steps;
     })

@@ -4,7 +4,10 @@ use Rattle.qc_io.specs.Outside.{Rose}
 use Rattle.query_script.specs.Commands.{wants_memory}
 use Rattle.query_script.specs.Lines.{may_want_memory}
 use Rattle.query_script.specs.Questions.{question_in}
+use Rattle.query_script.specs.Faults.{line_fault_in}
+use Rattle.reply_text.specs.Replies.{line_texts}
 use Rattle.qc_session.specs.Answers.{file_named}
+use Rattle.qc_session.proofs.Costs.{fault-within}
 use Rattle.qc_session.proofs.Stopped.{fault-alone, line-skips}
 use Rattle.qc_session.proofs.answer.answer_line.Goals as goal
 
@@ -25,4 +28,10 @@ returns-in-Ok g c =
           (λ stop h. fault-alone stop rose (file_named (Ok question)) h) e.fault;
       untold = e.untold;
       answered = rw gives e.answered;
+      steps = rw gives e.steps;
     }
+
+pub returns-in-Some-clause-steps : goal.returns-in-Some-clause-steps
+returns-in-Some-clause-steps g c = fault-within (g.F.Files.told c.args.files.now) _ c.args.line.now c.args.steps.now
+    (line_fault_in c.in-Err.cause) line_texts _ c.in-Some.ensures.texts
+    (rw (c.schema.ensures.value, c.now.ensures.value) at c.in-Err.ensures.gives)

@@ -6,7 +6,7 @@ pub returns-then-is_empty : goal.returns-then-is_empty
 returns-then-is_empty g c
     = record {
       by = quiet-all (g.F.Files.told c.args.files.now) _ c.take_lines.new.session.skipped.items _ _
-          (rw c.take_lines.new.session.skipped.ok.0 at (sym c.is_empty.ensures ∙ c.if-is_empty.true)) c.in-Ok.ensures.by;
+          (rw c.take_lines.new.session.skipped.ok.0 at (sym c.is_empty.ensures ∙ c.if-is_empty.true)) c.in-Ok.ensures.ends.by;
     }
 
 pub returns-else-is_empty : goal.returns-else-is_empty
@@ -14,7 +14,7 @@ returns-else-is_empty g c = record { by = tt }
 
 pub returns-then-is_empty-2 : goal.returns-then-is_empty-2
 returns-then-is_empty-2 g c =
-    let h = rw c.in-Err-Read.field-0-is at c.in-Err-Read.ensures.by in
+    let h = rw c.in-Err-Read.field-0-is at c.in-Err-Read.ensures.ends.by in
     record {
       by = (
         h.0,

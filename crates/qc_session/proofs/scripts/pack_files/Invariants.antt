@@ -2,6 +2,3 @@ use Rattle.qc_session.proofs.scripts.pack_files.Given as goal
 
 abbrev pub ghosts-read_files : goal.ghosts-read_files
 ghosts-read_files g a = record { name = a.blank.name; parts = a.blank.parts }
-
-abbrev pub ghosts-pack_script : goal.ghosts-pack_script
-ghosts-pack_script g a = record { name = a.blank.name; parts = a.blank.parts }

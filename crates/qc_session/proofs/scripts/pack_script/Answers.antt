@@ -8,12 +8,12 @@ use Rattle.qc_session.proofs.scripts.pack_script.Goals as goal
 pub run_silently-requires-clause-few : goal.run_silently-requires-clause-few
 run_silently-requires-clause-few g c
     = bare-few c.args.loaded.script.items _ (c.trim_byte_order_mark-script.ensures
-    ∙ ap without_mark c.deref.ensures.value) c.requires.short c.begin.ensures.few
+    ∙ ap without_mark c.deref.ensures.value) c.requires c.begin.ensures.few
 
 pub run_silently-requires-clause-short : goal.run_silently-requires-clause-short
 run_silently-requires-clause-short g c
     = bare-short c.args.loaded.script.items _ (c.trim_byte_order_mark-script.ensures
-    ∙ ap without_mark c.deref.ensures.value) c.requires.short
+    ∙ ap without_mark c.deref.ensures.value) c.requires
 
 pub returns-in_default-clause-ends : goal.returns-in_default-clause-ends
 returns-in_default-clause-ends g c = pack-memory refl c.fail.ensures.status c.fail.ensures.skipped c.fail.ensures.said

@@ -1,18 +1,4 @@
-use Rattle.std.proofs.Common.{refl}
-use Rattle.qc_session.proofs.Ran.{ran-gen, ran-pack, ran-run, ran-usage}
 use Rattle.qc_session.proofs.scripts.run_with_keys.Goals as goal
 
-pub returns-in-Run : goal.returns-in-Run
-returns-in-Run g c = rw (← c.in-Run.ensures.form) (ran-run c.run_files.ensures.ends c.run_files.ensures.hands)
-
-pub returns-in-Pack : goal.returns-in-Pack
-returns-in-Pack g c = rw (← c.in-Pack.ensures.form) (ran-pack c.pack_files.ensures.ends c.pack_files.ensures.hands)
-
-pub returns-in-Gen : goal.returns-in-Gen
-returns-in-Gen g c = rw (← c.in-Gen.ensures.form)
-    (ran-gen refl c.run_generated.ensures.ends c.run_generated.ensures.hands)
-
-pub returns-in-Invalid : goal.returns-in-Invalid
-returns-in-Invalid g c =
-    rw (← c.in-Invalid.ensures.form)
-    (ran-usage refl refl c.fail.ensures.status c.fail.ensures.skipped c.fail.ensures.said c.fail.ensures.hands)
+pub returns : goal.returns
+returns g c = c.run_on.ensures

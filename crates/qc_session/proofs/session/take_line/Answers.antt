@@ -1,40 +1,68 @@
-use Rattle.std.proofs.Common.{◌∙◌, refl, sym}
+use Rattle.std.proofs.Common.{◌+◌, ◌∙◌, ap, refl, sym}
+use Rattle.pinned_view.specs.Versions.{Versions}
 use Rattle.qc_session.specs.Pins.{pinned_state_in}
-use Rattle.qc_session.proofs.Answered.{for_told, point-is}
+use Rattle.qc_session.proofs.Answered.{for_told, on-ok, point-is}
+use Rattle.qc_session.proofs.Costs.{answered-within, passed-within, point-within, skipped-within}
 use Rattle.qc_session.proofs.FlushLemmas.{handed-none}
-use Rattle.qc_session.proofs.Taken.{ends-answered, ends-passed, later-same, stay-same}
+use Rattle.qc_session.proofs.Taken.{ends-answered, ends-memory, ends-passed, later-same, stay-same}
 use Rattle.qc_session.proofs.session.take_line.Goals as goal
 
 pub returns-then-is_ignored : goal.returns-then-is_ignored
-returns-then-is_ignored g c = record {
-  stay = stay-same _ _ _;
-  later = later-same _;
-  ends = ends-passed _ refl refl (sym c.is_ignored.ensures ∙ c.if-is_ignored.true);
-}
+returns-then-is_ignored g c =
+    let passed = sym c.is_ignored.ensures ∙ c.if-is_ignored.true in
+    record {
+      stay = stay-same _ _ _;
+      later = later-same _;
+      ends = ends-passed _ refl refl passed;
+      steps = passed-within (g.F.Files.told c.args.files.now) c.args.session.now.pinned.now.state
+          c.args.session.now.skipped.items (c.args.session.now.number + 1) c.args.line.now c.args.steps.now passed;
+    }
 
-pub returns-then-answer_plain_point : goal.returns-then-answer_plain_point
-returns-then-answer_plain_point g c =
+pub returns-in-Some-Ok : goal.returns-in-Some-Ok
+returns-in-Some-Ok g c =
     let told = g.F.Files.told c.args.files.now in
-    let asked = for_told told _ (point-is (pinned_state_in c.args.session.now.pinned) c.args.line.now _ _
-    (rw c.now.ensures.value at (c.answer_plain_point.ensures.answered c.if-answer_plain_point.true))) in
+    let taken = sym c.is_ignored.ensures ∙ c.if-is_ignored.false in
+    let point = rw (c.in-Some-Ok.field-0-is, c.now.ensures.value) at c.in-Some-Ok.ensures.answered in
+    let asked = for_told told _ (point-is (pinned_state_in c.args.session.now.pinned) c.args.line.now _ _ point) in
     record {
       stay = stay-same _ _ _;
       later = c.put_reply.ensures.later;
-      ends = ends-answered c.put_reply.result _ _ _ _ refl refl (sym c.is_ignored.ensures
-          ∙ c.if-is_ignored.false) c.requires.up_to asked
+      ends = ends-answered c.put_reply.result _ _ _ _ refl refl taken c.requires.up_to asked
           (handed-none c.args.session.now.pending (g.O.Sink.taken c.args.out.now)) (λ b. b)
           (rw c.deref.ensures.value at c.put_reply.ensures.puts);
+      steps = on-ok c.put_reply.result _ (answered-within told c.args.session.now.pinned.now.state
+          c.args.session.now.skipped.items (c.args.session.now.number + 1) c.args.line.now c.args.steps.now
+          c.answer_plain_point.new.steps taken
+          (point-within told c.args.session.now.pinned.now.state c.args.line.now c.args.steps.now
+          c.answer_plain_point.new.steps _ point (rw c.now.ensures.value at c.in-Some-Ok.ensures.steps)));
+    }
+
+pub returns-in-Some-Err : goal.returns-in-Some-Err
+returns-in-Some-Err g c =
+    let taken = sym c.is_ignored.ensures ∙ c.if-is_ignored.false in
+    let skip = c.skip_line.ensures in
+    record {
+      stay = stay-same _ _ _;
+      later = skip.later;
+      ends = ends-memory c.skip_line.result _ _ _ skip.kept.0 skip.kept.2 skip.skipped taken
+          (rw c.in-Some-Err.field-0-is at c.in-Some-Err.ensures.memory)
+          (ap (λ (v : Versions). pinned_state_in v) skip.kept.1)
+          (handed-none c.args.session.now.pending (g.O.Sink.taken c.args.out.now)) (λ b. b) skip.puts;
+      steps = on-ok c.skip_line.result _ (skipped-within (g.F.Files.told c.args.files.now)
+          c.args.session.now.pinned.now.state _ _ _ c.args.line.now c.args.steps.now c.answer_plain_point.new.steps taken
+          skip.skipped);
     }
 
 pub carry_out-requires-clause-taken : goal.carry_out-requires-clause-taken
 carry_out-requires-clause-taken g c = sym c.is_ignored.ensures ∙ c.if-is_ignored.false
 
-pub returns : goal.returns
-returns g c =
+pub returns-in-None : goal.returns-in-None
+returns-in-None g c =
     let e = c.carry_out.ensures in
     record {
       stay = e.stay;
       later = e.later;
       ends
           = record { number = e.ends.number; capacity = e.ends.capacity; skips = e.ends.skips; by = e.ends.by };
+      steps = rw (c.in-None.ensures.unread refl) at e.steps;
     }

@@ -2,6 +2,7 @@ use Rattle.std.proofs.Common.{◌==◌, true, arith, refl, ◌∙◌, sym, ap, [
 use Rattle.std.proofs.lemmas.Bool.Decides.{nat_tests}
 use Rattle.std.proofs.lemmas.Grind.{common_steps}
 use Rattle.qc_session.specs.Lines.{lines_of, without_cr}
+use Rattle.qc_session.proofs.Costs.{within-all, within-none, within-push}
 use Rattle.qc_session.proofs.Ended.{rose-later}
 use Rattle.qc_session.proofs.Steps.{prefix-end, prefix-push, length-push, lines-regroup, skipped-prefix, skipped-push, skips-up_to}
 use Rattle.qc_session.proofs.Steps.{so_far-none, so_far-push, stopped-at, wrote-all}
@@ -24,6 +25,7 @@ lines-init g c = record {
     sym c.requires.fresh.0,
     rw c.requires.fresh.1 (record { rising = tt; commands = tt }),
     rw (c.requires.fresh.1, c.requires.fresh.2, c.requires.fresh.3) (so_far-none _ _ _),
+    within-none _ _ _ _,
   );
 }
 
@@ -50,12 +52,14 @@ lines-preserved g c =
       few = omega (arith, inv.few, e.number, split);
       up_to = rw e.number (skips-up_to _ c.trim_cr.result.now _ _ inv.up_to e.skips);
       so_far =
-          let (done, all, len, skipped, so_far) = inv.so_far in (
+          let (done, all, len, skipped, so_far, within) = inv.so_far in (
             done ++ c.trim_cr.result.now ∷ [],
             lines-regroup done _ _ _ _ all cut,
             length-push done _ _ _ len (ap (λ n. n + 1) e.number),
             skipped-push c.lines.session.number c.trim_cr.result.now _ _ done len inv.up_to e.skips skipped,
             so_far-push _ _ _ _ done _ c.lines.session.number _ _ _ _ _ _ _ len e.skips so_far (rw inv.told at e).by,
+            within-push _ _ _ _ done c.trim_cr.result.now c.lines.session.number _ _ _ _ _ _ _ len e.skips so_far within
+                (rw inv.told at c.in-Ok.ensures.steps),
           );
     }
 
@@ -71,28 +75,31 @@ returns-in-Err g c =
     ap (map without_cr) c.split_line.ensures.lines
     ∙ ap (λ (line : List ℕ). line ∷ map without_cr (lines_of c.split_line.result.1.now))
     (sym c.trim_cr.ensures.value) in
-    let (done, all, len, skipped, so_far) = inv.so_far in
+    let (done, all, len, skipped, so_far, within) = inv.so_far in
     record {
-      skipped =
-          skipped-prefix (done ++ c.trim_cr.result.now ∷ []) lines _ (c.lines.session.number + 1) _
-          (length-push done _ _ _ len refl) (skips-up_to _ c.trim_cr.result.now _ _ inv.up_to e.skips)
-          (lines-regroup done _ _ _ _ all cut)
-          (skipped-push c.lines.session.number c.trim_cr.result.now _ _ done len inv.up_to e.skips skipped);
-      by = by-stop c.in-Err.stop
-          (λ name h. (
-            rose-later _ _ _ inv.later_files h.0,
-            stopped-at told (IsTrue (g.F.Files.steady c.args.files.now)) _ c.lines.session.skipped.items _ done
-                c.trim_cr.result.now lines name _ _ _ _ _
-                h.1 h.4 h.3 so_far (λ k. h.2 (inv.steady k)) (map without_cr (lines_of c.args.script.now)) (all
-                ∙ ap (λ (xs : List (List ℕ)). done ++ xs) cut) (rw len inv.up_to),
-          ))
-          (λ h. (
-            rose-later _ _ _ inv.later_out h.0,
-            prefix-push told _ _ _ done c.trim_cr.result.now lines c.lines.session.number _ _ _ _ _ _ len
-                inv.up_to e.skips so_far h.1
-                (map without_cr (lines_of c.args.script.now)) (all ∙ ap (λ (xs : List (List ℕ)). done ++ xs) cut),
-          ))
-          (rw inv.told at e).by;
+      ends = record {
+        skipped =
+            skipped-prefix (done ++ c.trim_cr.result.now ∷ []) lines _ (c.lines.session.number + 1) _
+            (length-push done _ _ _ len refl) (skips-up_to _ c.trim_cr.result.now _ _ inv.up_to e.skips)
+            (lines-regroup done _ _ _ _ all cut)
+            (skipped-push c.lines.session.number c.trim_cr.result.now _ _ done len inv.up_to e.skips skipped);
+        by = by-stop c.in-Err.stop
+            (λ name h. (
+              rose-later _ _ _ inv.later_files h.0,
+              stopped-at told (IsTrue (g.F.Files.steady c.args.files.now)) _ c.lines.session.skipped.items _ done
+                  c.trim_cr.result.now lines name _ _ _ _ _
+                  h.1 h.4 h.3 so_far (λ k. h.2 (inv.steady k)) (map without_cr (lines_of c.args.script.now)) (all
+                  ∙ ap (λ (xs : List (List ℕ)). done ++ xs) cut) (rw len inv.up_to),
+            ))
+            (λ h. (
+              rose-later _ _ _ inv.later_out h.0,
+              prefix-push told _ _ _ done c.trim_cr.result.now lines c.lines.session.number _ _ _ _ _ _ len
+                  inv.up_to e.skips so_far h.1
+                  (map without_cr (lines_of c.args.script.now)) (all ∙ ap (λ (xs : List (List ℕ)). done ++ xs) cut),
+            ))
+            (rw inv.told at e).by;
+      };
+      steps = tt;
     }
 
 no_rest : (rest : List ℕ) → (length rest == 0) ≡ true → rest ≡ []
@@ -102,25 +109,31 @@ no_rest (b ∷ bs) h = grind (arith, nat_tests, h)
 pub returns-in-Ok-flush : goal.returns-in-Ok-flush
 returns-in-Ok-flush g c =
     let inv = c.lines.invariant in
-    let (done, all, len, skipped, so_far) = inv.so_far in
+    let (done, all, len, skipped, so_far, within) = inv.so_far in
     let whole = all ∙ ap (λ (rest : List ℕ). done ++ map without_cr (lines_of rest))
     (no_rest c.lines.rest.now (sym c.is_empty.ensures ∙ c.lines-test.false)) in
     record {
-      skipped = skipped-prefix done [] _ c.lines.session.number _ len inv.up_to whole skipped;
-      by = wrote-all (g.F.Files.told c.args.files.now) _ _ done _ _ _ _ _ _ whole so_far c.in-Ok-flush.ensures.ok;
+      ends = record {
+        skipped = skipped-prefix done [] _ c.lines.session.number _ len inv.up_to whole skipped;
+        by = wrote-all (g.F.Files.told c.args.files.now) _ _ done _ _ _ _ _ _ whole so_far c.in-Ok-flush.ensures.ok;
+      };
+      steps = within-all (g.F.Files.told c.args.files.now) _ _ done _ _ _ whole within;
     }
 
 pub returns-in-Err-flush : goal.returns-in-Err-flush
 returns-in-Err-flush g c =
     let inv = c.lines.invariant in
-    let (done, all, len, skipped, so_far) = inv.so_far in
+    let (done, all, len, skipped, so_far, within) = inv.so_far in
     let whole = all ∙ ap (λ (rest : List ℕ). done ++ map without_cr (lines_of rest))
     (no_rest c.lines.rest.now (sym c.is_empty.ensures ∙ c.lines-test.false)) in
     record {
-      skipped = skipped-prefix done [] _ c.lines.session.number _ len inv.up_to whole skipped;
-      by = (
-        rose-later _ _ _ inv.later_out c.in-Err-flush.ensures.cause.failed,
-        prefix-end (g.F.Files.told c.args.files.now) _ _ done _ _ _ _ _ _ so_far c.in-Err-flush.ensures.err whole
-            (rw len inv.up_to),
-      );
+      ends = record {
+        skipped = skipped-prefix done [] _ c.lines.session.number _ len inv.up_to whole skipped;
+        by = (
+          rose-later _ _ _ inv.later_out c.in-Err-flush.ensures.cause.failed,
+          prefix-end (g.F.Files.told c.args.files.now) _ _ done _ _ _ _ _ _ so_far c.in-Err-flush.ensures.err whole
+              (rw len inv.up_to),
+        );
+      };
+      steps = tt;
     }

@@ -3,6 +3,7 @@ use Rattle.cube_defs.specs.declared.limits.TheConstants.{MAX_FILE}
 use Rattle.qc_session.specs.Lines.{lines_of, without_cr}
 use Rattle.qc_session.specs.Pins.{pinned_state_in}
 use Rattle.qc_session.specs.Runs.{AreSkipped, AreUpTo}
+use Rattle.qc_session.proofs.Costs.{IsWithinSoFar}
 use Rattle.qc_session.proofs.Steps.{GatheredSoFar}
 use Rattle.qc_session.proofs.session.take_lines.Given as goal
 
@@ -20,7 +21,9 @@ invariant-lines g l = record {
       × (length done ≡ l.session.number)
       × AreSkipped done l.session.skipped.items
       × GatheredSoFar (g.F.Files.told l.fn.files) l.fn.session.pinned.now.state l.session.skipped.items done
-      (pinned_state_in l.session.pinned) l.session.pending (g.O.Sink.taken l.fn.out) (g.O.Sink.taken l.out);
+      (pinned_state_in l.session.pinned) l.session.pending (g.O.Sink.taken l.fn.out) (g.O.Sink.taken l.out)
+      × IsWithinSoFar (g.F.Files.told l.fn.files) l.fn.session.pinned.now.state l.session.skipped.items done
+      l.fn.steps l.steps;
 }
 
 abbrev pub decreases-lines : goal.decreases-lines

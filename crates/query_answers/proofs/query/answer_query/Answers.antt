@@ -1,4 +1,4 @@
-use Rattle.std.proofs.Common.{◌≡◌, Option, Some, None, true, rules}
+use Rattle.std.proofs.Common.{◌≡◌, ◌≤◌, ℕ, Option, Some, None, true, arith, rules}
 use Rattle.std.specs.Prelude.{Err, IfOk, IsSome, Ok, OnErr, OnOk, Result, is_some}
 use Rattle.query_answers.proofs.query.answer_query.Goals as goal
 
@@ -9,6 +9,9 @@ on-ok (Err e) P p = tt
 on-err : {T E P : Type 0} (r : Result T E) → P → OnErr r P
 on-err (Ok x) p = tt
 on-err (Err e) p = p
+
+none-more : (n : ℕ) → n ≤ n
+none-more n = omega arith
 
 -- what holds where there is a ranking
 ranked : {T E X : Type 0} (r : Result T E) (o : Option X) (P : Type 0) → (IsSome o → IfOk r (λ _. P))
@@ -44,6 +47,9 @@ returns-in-Iceberg g c = rw c.in-Iceberg.is (record {
   steps = λ rows has. ranked c.answer_iceberg.result _ _ (λ there. c.answer_iceberg.ensures.steps there rows has);
   memory = on-err c.answer_iceberg.result (λ e. absurd (cc e));
 })
+
+pub returns-in-Stats-clause-steps : goal.returns-in-Stats-clause-steps
+returns-in-Stats-clause-steps g c = rw c.in-Stats.is (λ rows has. none-more c.args.steps.now)
 
 pub returns-in-Parents : goal.returns-in-Parents
 returns-in-Parents g c = rw c.in-Parents.is (record {

@@ -1,0 +1,231 @@
+-- What the lines of a script take is within what they may cost.
+use Rattle.std.proofs.Common.{◌≡◌, ◌≤◌, ◌<◌, ◌+◌, ◌*◌, ◌∙◌, ℕ, Bool, List, [], ◌∷◌, ◌++◌, length, true, false, refl, sym, ap, arith, append-nil}
+use Rattle.std.proofs.Common.{Option, Some, None, IfSome, inl, inr}
+use Rattle.std.specs.Prelude.{IsSomeAnd, Result, Ok, Err, OnOk, fold, nat_lt, if◌then◌else◌}
+use Rattle.std.specs.Option.{option_map}
+use Rattle.std.proofs.lemmas.Bool.Decides.{nat_tests}
+use Rattle.std.proofs.lemmas.List.Sums.{fold-append}
+use Rattle.aggregates.specs.Views.{kind_in}
+use Rattle.aggregates.specs.declared.kind.AggKind.{AggKind}
+use Rattle.aggregates.specs.declared.kind.AggKind.TheVariants as kinds
+use Rattle.cell_core.specs.declared.fields.Field.{Field}
+use Rattle.csv_load.specs.Batch.{Change}
+use Rattle.csv_load.specs.Faults.{Fault}
+use Rattle.csv_load.specs.Files.{batch_in}
+use Rattle.cube_defs.specs.Text.{Text}
+use Rattle.cube_defs.specs.declared.limits.TheConstants.{MAX_FILE}
+use Rattle.qc_io.specs.Outside.{FileContents}
+use Rattle.query_answers.specs.Queries.{IsWithinSteps, names_kind}
+use Rattle.query_script.specs.Commands.{command_in}
+use Rattle.query_script.specs.Faults.{LineFault}
+use Rattle.query_script.specs.Queries.{Point, query_in}
+use Rattle.query_script.specs.Questions.{Ask}
+use Rattle.query_script.specs.declared.query.Query.{Query}
+use Rattle.query_script.specs.declared.query.Query.TheVariants as queries
+use Rattle.warehouse.specs.Batch as batches
+use Rattle.warehouse.specs.Batch.{Applied, Refusal, result}
+use Rattle.warehouse.specs.InPlace.{IsAccepted, IsWithinCost}
+use Rattle.warehouse.specs.State.{State}
+use Rattle.qc_session.specs.Costs.{Costed, IsWithin, IsWithinScript, batch_cost, both_costs, changes_cost, costed_step, file_cost, item_cost}
+use Rattle.qc_session.specs.Costs.{line_cost, named_kind, query_cost, script_cost}
+use Rattle.qc_session.specs.Forms.{FileNames}
+use Rattle.qc_session.specs.Lines.{is_passed, script_lines}
+use Rattle.qc_session.specs.Pins.{PinnedState, unpinned}
+use Rattle.qc_session.specs.Runs.{IsScriptOf, IsStartOf, Took}
+use Rattle.qc_session.specs.Session.{Skips}
+use Rattle.qc_session.specs.Transcript.{Item, Run, is_skipped, item, items, run_at, step, transcript}
+use Rattle.qc_session.proofs.Steps.{GatheredSoFar, items-later, items-push, skipped_now, took-skips}
+
+pub no-steps : (n : ℕ) → IsWithin (Some 0) n n
+no-steps n = omega arith
+
+within-both : (first second : Option ℕ) (from mid to : ℕ) → IsWithin first from mid → IsWithin second mid to
+    → IsWithin (both_costs first second) from to
+within-both None second from mid to h more = tt
+within-both (Some first) None from mid to h more = tt
+within-both (Some first) (Some second) from mid to h more = omega (arith, h, more)
+
+named-in : (kind : AggKind) → named_kind (kind_in kind) ≡ kind
+named-in kinds.Count = refl
+named-in (kinds.Sum m) = refl
+named-in (kinds.Least m) = refl
+named-in (kinds.Greatest m) = refl
+named-in (kinds.Mean m) = refl
+
+-- where something is said only if an index is named
+if-named : (b : Bool) (most from to : ℕ) → (b ≡ true → to ≤ from + most)
+    → IsWithin (if b then Some most else None) from to
+if-named true most from to h = h refl
+if-named false most from to h = tt
+
+pub query-within : (s : State) (query : Query) (from to : ℕ) → IsWithinSteps s (names_kind s.schema) query from to
+    → IsWithin (query_cost s (query_in query)) from to
+query-within s (queries.Point asked) from to w = w
+query-within s (queries.Range asked) from to w = w
+query-within s (queries.Bounds asked) from to w = w
+query-within s (queries.Iceberg kind bound value) from to w
+    = rw (named-in kind) (if-named (names_kind s.schema kind) _ from to w)
+query-within s queries.Stats from to w = omega (arith, w)
+query-within s query from to w = tt
+
+-- a batch that was read and taken
+pub batch-within : (s : State) (bytes : List ℕ) (from to : ℕ) → length bytes ≤ MAX_FILE
+    → (IsAccepted s bytes → IsWithinCost s bytes from to) → IsWithin (batch_cost s bytes) from to
+batch-within s bytes from to short w = rw fits (by (batch_in s.schema bytes) refl (result s batches.Apply bytes) refl)
+  where
+    fits : nat_lt MAX_FILE (length bytes) ≡ false
+    fits = grind (arith, nat_tests, short)
+
+    by : (r : Result (List (Change Text)) Fault) → batch_in s.schema bytes ≡ r → (taken : Result Applied Refusal)
+        → result s batches.Apply bytes ≡ taken → IsWithin (changes_cost s r taken) from to
+    by (Err fault) read taken does = tt
+    by (Ok changes) read (Err refusal) does = tt
+    by (Ok changes) read (Ok applied) does = w (rw does refl) changes read
+
+-- a file that is too long
+pub long-within : (told : Option FileContents) (name text : List ℕ) (s : State) (Asks : Type 0) (n : ℕ) → text ≡ name
+    → IfSome told (λ t. IsSomeAnd (t text) (λ whole. MAX_FILE < length whole))
+    → IfSome told (λ t. IfSome (t name) (λ bytes. Asks → IsWithin (batch_cost s bytes) n n))
+long-within None name text s Asks n same h = tt
+long-within (Some t) name text s Asks n same h = by (t name) (rw same at h)
+  where
+    by : (file : Option (List ℕ)) → IsSomeAnd file (λ whole. MAX_FILE < length whole)
+        → IfSome file (λ bytes. Asks → IsWithin (batch_cost s bytes) n n)
+    by None h = tt
+    by (Some bytes) h = λ asks. rw (longer bytes h) (no-steps n)
+      where
+        longer : (bytes : List ℕ) → MAX_FILE < length bytes → nat_lt MAX_FILE (length bytes) ≡ true
+        longer bytes more = grind (arith, nat_tests, more)
+
+-- what a file that is applied or tried may cost
+pub file-within : (told : Option FileContents) (name : List ℕ) (s : State) (from to : ℕ)
+    → IfSome told (λ t. IfSome (t name) (λ bytes. batches.Apply ≡ batches.Apply → IsWithin (batch_cost s bytes) from to))
+    → IfSome told (λ t. IsWithin (file_cost s (t name)) from to)
+file-within None name s from to h = tt
+file-within (Some t) name s from to h = by (t name) h
+  where
+    by : (file : Option (List ℕ))
+        → IfSome file (λ bytes. batches.Apply ≡ batches.Apply → IsWithin (batch_cost s bytes) from to)
+        → IsWithin (file_cost s file) from to
+    by None h = tt
+    by (Some bytes) h = h refl
+
+-- a line with a fault
+pub fault-within : {Texts : Type 0} (told : Option FileContents) (s : State) (line : List ℕ) (n : ℕ)
+    (fault : Option LineFault) (texts_of : LineFault → Texts) (words : Texts) → Some words ≡ option_map texts_of fault
+    → IfSome fault (λ f. command_in s.schema line ≡ Err f) → IfSome told (λ t. IsWithin (line_cost s t line) n n)
+fault-within None s line n fault texts_of words is read = tt
+fault-within (Some t) s line n None texts_of words is read = absurd (cc)
+fault-within (Some t) s line n (Some f) texts_of words is read = rw read (no-steps n)
+
+-- a line that asks a point
+pub point-within : (told : Option FileContents) (s : State) (line : List ℕ) (from to : ℕ) (Answers : List Field → Type 0)
+    → (asked : List Field) × (command_in s.schema line ≡ Ok (Ask (Point asked))) × Answers asked
+    → to ≤ from + (2 * length s.schema.dims + 3) → IfSome told (λ t. IsWithin (line_cost s t line) from to)
+point-within None s line from to Answers asks w = tt
+point-within (Some t) s line from to Answers (asked, command, answers) w = rw command w
+
+-- a line that is answered, skipped or passed over
+pub answered-within : (told : Option FileContents) (s : State) (skipped : List ℕ) (number : ℕ) (line : List ℕ)
+    (from to : ℕ) → is_passed line ≡ false → IfSome told (λ t. IsWithin (line_cost s t line) from to)
+    → IfSome told (λ t. IsWithin (item_cost s t (item skipped number line)) from to)
+answered-within None s skipped number line from to taken h = tt
+answered-within (Some t) s skipped number line from to taken h = rw taken (by (is_skipped skipped number))
+  where
+    by : (b : Bool) → IsWithin (if b then None else line_cost s t line) from to
+    by true = tt
+    by false = h
+
+pub skipped-within : (told : Option FileContents) (s : State) (skipped new : List ℕ) (number : ℕ) (line : List ℕ)
+    (from to : ℕ) → is_passed line ≡ false → new ≡ skipped ++ (number + 1) ∷ []
+    → IfSome told (λ t. IsWithin (item_cost s t (item new (number + 1) line)) from to)
+skipped-within None s skipped new number line from to taken more = tt
+skipped-within (Some t) s skipped new number line from to taken more
+    = rw (taken, more, skipped_now number skipped) tt
+
+pub passed-within : (told : Option FileContents) (s : State) (skipped : List ℕ) (number : ℕ) (line : List ℕ) (n : ℕ)
+    → is_passed line ≡ true → IfSome told (λ t. IsWithin (item_cost s t (item skipped number line)) n n)
+passed-within None s skipped number line n passed = tt
+passed-within (Some t) s skipped number line n passed = rw passed (no-steps n)
+
+abbrev fresh : State → Costed
+fresh start = record { run = run_at (unpinned start) []; cost = Some 0 }
+
+costed-run : (t : FileContents) (c : Costed) (xs : List Item)
+    → (fold (costed_step t) c xs).run ≡ fold (step t) c.run xs
+costed-run t c [] = refl
+costed-run t c (x ∷ xs) = costed-run t (costed_step t c x) xs
+
+-- what one line more costs after a run
+abbrev cost_after : FileContents → Option ℕ → Item → Run → Option ℕ
+cost_after t cost line run = if run.lacked then cost else both_costs cost (item_cost run.state.state t line)
+
+-- the lines so far with one line more
+cost-push : (t : FileContents) (start : State) (skipped : List ℕ) (lines : List (List ℕ)) (line : List ℕ)
+    (state : PinnedState) (replies : List ℕ) → Took t start skipped lines state replies
+    → script_cost t start skipped (lines ++ line ∷ [])
+    ≡ both_costs (script_cost t start skipped lines) (item_cost state.state t (item skipped (length lines + 1) line))
+unfolding script_cost transcript
+cost-push t start skipped lines line state replies took =
+    let num : 0 + length lines + 1 ≡ length lines + 1 = omega arith in
+    let before = (fold (costed_step t) (fresh start) (items skipped 0 lines)).cost in
+    let here = item skipped (0 + length lines + 1) line in
+    ap (λ (xs : List Item). (fold (costed_step t) (fresh start) xs).cost) (items-push skipped 0 lines line)
+    ∙ ap (λ (c : Costed). c.cost) (fold-append (costed_step t) (fresh start) (items skipped 0 lines) (here ∷ []))
+    ∙ ap (cost_after t before here) (costed-run t (fresh start) (items skipped 0 lines) ∙ took.is)
+    ∙ ap (λ m. both_costs before (item_cost state.state t (item skipped m line))) num
+
+-- a number past all lines makes no difference
+cost-skips : (t : FileContents) (start : State) (skipped new : List ℕ) (lines : List (List ℕ)) (line : List ℕ)
+    → Skips skipped (length lines + 1) line new → script_cost t start new lines ≡ script_cost t start skipped lines
+unfolding script_cost
+cost-skips t start skipped new lines line (inl same) = ap (λ (ks : List ℕ). script_cost t start ks lines) same
+cost-skips t start skipped new lines line (inr more) =
+    let past : 0 + length lines < length lines + 1 = omega arith in
+    ap (λ (ks : List ℕ). script_cost t start ks lines) more.0
+    ∙ ap (λ (xs : List Item). (fold (costed_step t) (fresh start) xs).cost)
+    (items-later skipped 0 (length lines + 1) lines past)
+
+-- what a loop over the lines knows of the steps
+abbrev pub IsWithinSoFar : Option FileContents → State → List ℕ → List (List ℕ) → ℕ → ℕ → Type 0
+IsWithinSoFar told start skipped lines from to
+    = IfSome told (λ t. IsWithin (script_cost t start skipped lines) from to)
+
+pub within-none : (told : Option FileContents) (start : State) (skipped : List ℕ) (n : ℕ)
+    → IsWithinSoFar told start skipped [] n n
+unfolding script_cost items
+within-none None start skipped n = tt
+within-none (Some t) start skipped n = no-steps n
+
+pub within-push : (told : Option FileContents) (start : State) (skipped new : List ℕ) (lines : List (List ℕ))
+    (line : List ℕ) (number : ℕ) (state : PinnedState) (kept : List ℕ) (first before : Option (List ℕ))
+    (from mid to : ℕ) → length lines ≡ number → Skips skipped (number + 1) line new
+    → GatheredSoFar told start skipped lines state kept first before → IsWithinSoFar told start skipped lines from mid
+    → IfSome told (λ t. IsWithin (item_cost state.state t (item new (number + 1) line)) mid to)
+    → IsWithinSoFar told start new (lines ++ line ∷ []) from to
+within-push None start skipped new lines line number state kept first before from mid to len skips w h more = tt
+within-push (Some t) start skipped new lines line number state kept first before from mid to len skips w h more =
+    let taken = took-skips t start skipped new lines line state w.replies (rw len skips) w.took in
+    rw (cost-push t start new lines line state w.replies taken)
+    (within-both _ _ from mid to (rw (cost-skips t start skipped new lines line (rw len skips)) h) (rw len more))
+
+pub within-all : (told : Option FileContents) (start : State) (skipped : List ℕ) (lines all : List (List ℕ))
+    (from to : ℕ) → all ≡ lines ++ [] → IsWithinSoFar told start skipped lines from to
+    → IsWithinSoFar told start skipped all from to
+within-all None start skipped lines all from to e h = tt
+within-all (Some t) start skipped lines all from to e h = rw (e ∙ append-nil lines) h
+
+-- the same over the names that a run has for its script
+pub within-ended : (told : Option FileContents) (start start2 : State) (skipped skipped2 : List ℕ)
+    (lines lines2 : List (List ℕ)) (from to : ℕ) → start2 ≡ start → skipped2 ≡ skipped → lines2 ≡ lines
+    → IsWithinSoFar told start2 skipped lines2 from to → IsWithinSoFar told start skipped2 lines from to
+within-ended None start start2 skipped skipped2 lines lines2 from to s k l h = tt
+within-ended (Some t) start start2 skipped skipped2 lines lines2 from to s k l h = rw (sym s, k, sym l) h
+
+pub within-run : (told : Option FileContents) (names : FileNames) (start : State) (script skipped : List ℕ)
+    (from to : ℕ) → IfSome told (λ t. IsStartOf t names start) → IfSome told (λ t. IsScriptOf t names.script script)
+    → IsWithinSoFar told start skipped (script_lines script) from to
+    → IfSome told (λ t. IsWithinScript t names skipped from to)
+within-run None names start script skipped from to is is_script w = tt
+within-run (Some t) names start script skipped from to is is_script w
+    = record { start = start; script = script; start_read = is; script_read = is_script; within = w }

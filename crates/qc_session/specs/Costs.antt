@@ -1,0 +1,125 @@
+-- What the lines of a script may cost, in steps.
+use Rattle.std.specs.Prelude.{ℕ, ◌+◌, ◌*◌, ◌^◌, ◌≤◌, Option, Some, None, IfSome, List, [], length, fold, nat_lt, Result, Ok, Err}
+use Rattle.std.specs.Prelude.{if◌then◌else◌}
+use Rattle.aggregates.specs.declared.kind.AggKind as declared
+use Rattle.aggregates.specs.declared.kind.AggKind.TheVariants as kinds
+use Rattle.csv_load.specs.Batch.{Change}
+use Rattle.csv_load.specs.Faults.{Fault}
+use Rattle.csv_load.specs.Files.{batch_in}
+use Rattle.cube_defs.specs.Answers.{AggKind, Count, Greatest, Least, Mean, Sum}
+use Rattle.cube_defs.specs.Text.{Text}
+use Rattle.cube_defs.specs.declared.limits.TheConstants.{MAX_FILE}
+use Rattle.qc_io.specs.Outside.{FileContents}
+use Rattle.query_answers.specs.Queries.{classes_of, names_kind, steps_of_class, work_of}
+use Rattle.query_script.specs.Commands.{command_in}
+use Rattle.query_script.specs.Faults.{LineFault}
+use Rattle.query_script.specs.Queries as queries
+use Rattle.query_script.specs.Queries.{Query}
+use Rattle.query_script.specs.Questions as asks
+use Rattle.query_script.specs.Questions.{Question}
+use Rattle.warehouse.specs.Batch.{Applied, Apply, Refusal, result}
+use Rattle.warehouse.specs.InPlace.{cost_in}
+use Rattle.warehouse.specs.State.{State}
+use Rattle.qc_session.specs.Forms.{FileNames}
+use Rattle.qc_session.specs.Lines.{is_passed, script_lines}
+use Rattle.qc_session.specs.Pins.{unpinned}
+use Rattle.qc_session.specs.Runs.{IsScriptOf, IsStartOf}
+use Rattle.qc_session.specs.Transcript.{Item, Run, items, run_at, step}
+
+-- A cost is the most steps that may be taken. It is nothing where no bound is claimed.
+
+-- no more steps are taken than a cost, from one count of them to another
+abbrev pub IsWithin : Option ℕ → ℕ → ℕ → Type 0
+IsWithin cost from to = IfSome cost (λ most. to ≤ from + most)
+
+-- two costs, one after the other
+abbrev pub both_costs : Option ℕ → Option ℕ → Option ℕ
+both_costs None second = None
+both_costs (Some first) None = None
+both_costs (Some first) (Some second) = Some (first + second)
+
+-- an aggregate as a schema names it
+abbrev pub named_kind : AggKind → declared.AggKind
+named_kind Count = kinds.Count
+named_kind (Sum m) = kinds.Sum m
+named_kind (Least m) = kinds.Least m
+named_kind (Greatest m) = kinds.Greatest m
+named_kind (Mean m) = kinds.Mean m
+
+-- A query of the present rows. No bound is claimed of an iceberg without an index, and of the other queries: `parents`,
+-- `children` and `rollup`.
+abbrev pub query_cost : State → Query → Option ℕ
+query_cost s (queries.Point asked) = Some (2 * length s.schema.dims + 3)
+query_cost s (queries.Range asked) = Some (3 * (1 + work_of s asked))
+query_cost s (queries.Bounds asked) = Some (7 * (length s.schema.dims + 1) * 2 ^ length s.schema.dims)
+query_cost s (queries.Iceberg kind bound value) =
+    if names_kind s.schema (named_kind kind)
+    then Some (length (classes_of s kind bound value) * steps_of_class s.schema)
+    else None
+query_cost s queries.Stats = Some 0
+query_cost s query = None
+
+-- the changes of a batch that a state takes; no bound is claimed of a batch that is refused
+abbrev pub changes_cost : State → Result (List (Change Text)) Fault → Result Applied Refusal → Option ℕ
+changes_cost s (Err fault) taken = None
+changes_cost s (Ok changes) (Err refusal) = None
+changes_cost s (Ok changes) (Ok applied) = Some (cost_in s changes)
+
+-- a batch that is applied or tried; a file that is too long isn't taken
+abbrev pub batch_cost : State → List ℕ → Option ℕ
+batch_cost s bytes = if nat_lt MAX_FILE (length bytes) then Some 0
+    else changes_cost s (batch_in s.schema bytes) (result s Apply bytes)
+
+-- the same of a file that is told
+abbrev pub file_cost : State → Option (List ℕ) → Option ℕ
+file_cost s None = None
+file_cost s (Some bytes) = batch_cost s bytes
+
+-- What a line asks, or its fault. No bound is claimed of `load`, `widen`, `pin` and `at`.
+abbrev pub question_cost : State → FileContents → Result Question LineFault → Option ℕ
+question_cost s told (Err fault) = Some 0
+question_cost s told (Ok (asks.Load name)) = None
+question_cost s told (Ok (asks.Apply name)) = file_cost s (told name)
+question_cost s told (Ok (asks.Try name)) = file_cost s (told name)
+question_cost s told (Ok (asks.Widen name value)) = None
+question_cost s told (Ok (asks.Pin name)) = None
+question_cost s told (Ok (asks.Unpin name)) = Some 0
+question_cost s told (Ok (asks.At name query)) = None
+question_cost s told (Ok (asks.Ask query)) = query_cost s query
+
+-- a line that is answered
+abbrev pub line_cost : State → FileContents → List ℕ → Option ℕ
+line_cost s told line = question_cost s told (command_in s.schema line)
+
+-- a line of a script; no bound is claimed of one that is skipped for want of memory
+abbrev pub item_cost : State → FileContents → Item → Option ℕ
+item_cost s told item =
+    if is_passed item.line then Some 0
+    else if item.skipped then None
+    else line_cost s told item.line
+
+-- how far a script has come, and what its lines cost so far
+pub record Costed : Type 0 where
+  pub run : Run
+  pub cost : Option ℕ
+
+-- one line more; those where a file was missing, and after it, aren't taken
+abbrev pub costed_step : FileContents → Costed → Item → Costed
+costed_step told c item = record {
+  run = step told c.run item;
+  cost = if c.run.lacked then c.cost else both_costs c.cost (item_cost c.run.state.state told item);
+}
+
+-- all lines of a script, from the state at which a run starts
+unfoldable pub script_cost : FileContents → State → List ℕ → List (List ℕ) → Option ℕ
+script_cost told start skipped lines =
+    (fold (costed_step told) (record { run = run_at (unpinned start) []; cost = Some 0 })
+    (items skipped 0 lines)).cost
+
+-- from one count of steps to another there are no more than the lines of the script that was read may cost
+pub record IsWithinScript (told : FileContents) (names : FileNames) (skipped : List ℕ) (from to : ℕ) : Type 0 where
+  pub start : State
+  pub script : List ℕ
+  pub start_read : IsStartOf told names start
+  pub script_read : IsScriptOf told names.script script
+  pub within : IsWithin (script_cost told start skipped (script_lines script)) from to
