@@ -358,6 +358,43 @@ module _ (few-nodes : (n id s : ℕ) → length (nodes text_cmp (drawn_rows n id
         ≡ drawn_rows rows (oldest_id rows before) (after_rows (before * batch_rows rows) seed)
     rows-before rows seed before small le = (state-holds rows seed small before le).rows-are
 
+-- ---- what the states are
+
+pub state-at-the-start : (rows seed : ℕ)
+    → state_before rows seed 0 ≡ file_taken (empty layout) Load (base_text rows seed)
+unfolding state_before batches_taken
+state-at-the-start rows seed = refl
+
+batches-last : (n rows before draws : ℕ) (state : State)
+    → batches_taken (suc n) rows before draws state
+    ≡ file_taken (batches_taken n rows before draws state) Apply
+    (batch_text rows (before + n) (after_rows (n * batch_rows rows) draws))
+unfolding batches_taken
+batches-last zero rows before draws state =
+    let same : before ≡ before + 0 = omega arith in
+    let none : 0 ≡ 0 * batch_rows rows = omega arith in
+    ap₂ (λ (b n : ℕ). file_taken state Apply (batch_text rows b (after_rows n draws))) same none
+batches-last (suc n) rows before draws state =
+    let k = batch_rows rows in
+    let next = file_taken state Apply (batch_text rows before draws) in
+    let same : before + 1 + n ≡ before + suc n = omega arith in
+    batches-last n rows (before + 1) (after_rows k draws) next
+    ∙ ap₂ (λ (b d : ℕ). file_taken (batches_taken n rows (before + 1) (after_rows k draws) next) Apply
+    (batch_text rows b d)) same (draws-then k (n * k) (suc n * k) draws (omega arith))
+
+pub state-after-a-batch : (rows seed before : ℕ) → state_before rows seed (before + 1)
+    ≡ file_taken (state_before rows seed before) Apply (batch_at rows seed before)
+unfolding state_before
+state-after-a-batch rows seed before =
+    let first = file_taken (empty layout) Load (base_text rows seed) in
+    let k = batch_rows rows in
+    let one : before + 1 ≡ suc before = omega arith in
+    let same : 0 + before ≡ before = omega arith in
+    ap (λ (n : ℕ). batches_taken n rows 0 (after_rows rows seed) first) one
+    ∙ batches-last before rows 0 (after_rows rows seed) first
+    ∙ ap₂ (λ (b d : ℕ). file_taken (batches_taken before rows 0 (after_rows rows seed) first) Apply
+    (batch_text rows b d)) same (draws-then rows (before * k) (rows + before * k) seed refl)
+
 pub state-at-the-end : (rows seed : ℕ) → generated_state rows seed ≡ state_before rows seed BATCHES
 unfolding generated_state filled state_before
 state-at-the-end rows seed = refl
