@@ -1,3 +1,5 @@
 mod Schema
 mod Taken
 mod Totals
+mod Changes
+mod Accepted

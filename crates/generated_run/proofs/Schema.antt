@@ -5,7 +5,7 @@ use Rattle.std.specs.Str.{is_utf8, chars}
 use Rattle.text_lines.specs.Cuts.{words_of}
 use Rattle.qc_schema.specs.Grammar.{dim_line, id_line, index_line, kind_of, measure_line, named_line, read_lines, schema_in, take_line}
 use Rattle.qc_schema.specs.Grammar.{version_line}
-use Rattle.generated_run.specs.Generated.{layout}
+use Rattle.row_generator.specs.Drawn.{layout}
 
 pub spelt : schema_in (codes "qcube 1\nid id\ndim a\ndim b\ndim c\ndim d\ndim e\nmeasure amount 2\nindex sum amount\n")
     ≡ Ok layout

@@ -1,34 +1,17 @@
 -- A generated run: the state that its files leave, and the record that tells it.
-use Rattle.std.specs.Prelude.{ℕ, zero, suc, ◌+◌, List, [], ◌∷◌, ◌++◌, length, replicate, ℤ, pos, Option, Some, None, Result, Ok, Err, codes}
-use Rattle.std.specs.Prelude.{decimal}
+use Rattle.std.specs.Prelude.{ℕ, zero, suc, ◌+◌, ◌*◌, List, [], ◌∷◌, ◌++◌, length, replicate, ℤ, pos, Option, Some, None, Result, Ok}
+use Rattle.std.specs.Prelude.{Err, IsOk, codes, decimal}
 use Rattle.aggregates.specs.Texts.{amount_text}
-use Rattle.aggregates.specs.declared.kind.AggKind.TheVariants as kinds
 use Rattle.cube_defs.specs.Answers.{part}
 use Rattle.cube_defs.specs.Rows.{Agg}
 use Rattle.cube_defs.specs.Text.{text_cmp, text_eq}
 use Rattle.cube_defs.specs.Tree.{classes, links, nodes, tree_edges}
-use Rattle.cube_defs.specs.declared.limits.TheConstants.{MAX_CODES, MAX_ROWS}
 use Rattle.cube_laws.specs.Total.{agg_at}
-use Rattle.qc_schema.specs.Schema.{Layout}
-use Rattle.qc_schema.specs.declared.limits.SchemaVersion.TheVariants as versions
-use Rattle.qc_schema.specs.declared.limits.TheConstants.{DEFAULT_NODES}
+use Rattle.row_generator.specs.Drawn.{layout}
 use Rattle.row_generator.specs.Generator.{after_rows, base_text, batch_rows, batch_text}
 use Rattle.row_generator.specs.declared.files.TheConstants.{BATCHES}
 use Rattle.warehouse.specs.Batch.{Applied, Apply, FileUse, Load, Refusal, result}
 use Rattle.warehouse.specs.State.{State, empty}
-
--- the schema of the generated files
-abbrev pub layout : Layout
-layout = record {
-  version = versions.One;
-  id = codes "id";
-  dims = codes "a" ∷ codes "b" ∷ codes "c" ∷ codes "d" ∷ codes "e" ∷ [];
-  measures = record { name = codes "amount"; scale = 2 } ∷ [];
-  indexes = kinds.Sum 0 ∷ [];
-  nodes = DEFAULT_NODES;
-  rows = MAX_ROWS;
-  values = MAX_CODES;
-}
 
 -- the state after a file that gave this: where it was refused, the one before
 abbrev pub state_after : State → Result Applied Refusal → State
@@ -52,6 +35,19 @@ filled rows seed state =
 
 unfoldable pub generated_state : ℕ → ℕ → State
 generated_state rows seed = filled rows seed (empty layout)
+
+-- a file is taken, and not refused
+abbrev pub IsTaken : State → FileUse → List ℕ → Type 0
+IsTaken state kind bytes = IsOk (result state kind bytes)
+
+-- the state that the base file and so many batches after it leave
+unfoldable pub state_before : ℕ → ℕ → ℕ → State
+state_before rows seed before
+    = batches_taken before rows 0 (after_rows rows seed) (file_taken (empty layout) Load (base_text rows seed))
+
+-- the bytes of the batch that so many others stand before
+abbrev pub batch_at : ℕ → ℕ → ℕ → List ℕ
+batch_at rows seed before = batch_text rows before (after_rows (rows + before * batch_rows rows) seed)
 
 -- the sum of the first measure, where there are rows
 abbrev pub sum_in : Option Agg → ℤ

@@ -1,7 +1,9 @@
 // The files that a generated warehouse takes.
-ghost use Rattle.std.specs.Prelude.{IfErr, IfOk, IsSome, OnOk, ◌<◌, ◌≡◌, ◌≤◌};
+ghost use Rattle.std.specs.Prelude.{IfErr, IfOk, IsSome, None, OnOk, ◌<◌, ◌≡◌, ◌≤◌};
 ghost use Rattle.cube_defs.specs.declared.limits.TheConstants.{MAX_ROWS};
-ghost use Rattle.generated_run.specs.Generated.{batches_taken, file_taken, layout};
+ghost use Rattle.generated_run.specs.Generated.{batches_taken, file_taken};
+ghost use Rattle.qc_schema.specs.Progress.{schema_fault_in};
+ghost use Rattle.row_generator.specs.Drawn.{layout};
 ghost use Rattle.row_generator.specs.Generator.{after_rows, base_text, batch_rows, batch_text};
 ghost use Rattle.row_generator.specs.declared.files.TheConstants.{BATCHES};
 ghost use Rattle.warehouse.specs.Batch.{Apply, Load};
@@ -10,7 +12,7 @@ ghost use Rattle.warehouse.specs.Stored.{refusal_in};
 
 use cell_core::Steps;
 use cube_defs::Memory;
-use qc_schema::read_schema;
+use qc_schema::{SchemaRefused, read_schema};
 use row_generator::{BATCHES, Draws, write_base, write_batch};
 use std::alloc::{AllocError, Global};
 use std::sync::ledger::Ledger;
@@ -20,13 +22,24 @@ use warehouse::{Applied, Refused, Warehouse};
 const SCHEMA: &[u8] =
     b"qcube 1\nid id\ndim a\ndim b\ndim c\ndim d\ndim e\nmeasure amount 2\nindex sum amount\n";
 
+// A text that is a schema is refused for nothing but memory.
+fn out_of_memory(refused: SchemaRefused) -> Memory
+    requires { schema_fault_in refused ≡ None }
+{
+    match refused {
+        SchemaRefused::Memory => AllocError,
+        SchemaRefused::NotUtf8 => unreachable!(),
+        SchemaRefused::Line { .. } => unreachable!(),
+    }
+}
+
 /// A warehouse of the files' schema, without rows.
 pub fn new_warehouse(alloc: Global) -> Result<Warehouse, Memory>
     ensures { IfOk result (λ warehouse. warehouse.state ≡ empty layout) }
 {
     match read_schema(alloc, SCHEMA) {
         Ok(schema) => Warehouse::new(alloc, schema),
-        Err(_) => Err(AllocError),
+        Err(refused) => Err(out_of_memory(refused)),
     }
 }
 

@@ -2,6 +2,7 @@
 #![tactic(auto)]
 
 mod files;
+pub mod laws;
 mod run;
 mod run_record;
 
