@@ -112,8 +112,9 @@ fn relink<K: Numbered>(links: &mut Links<K>)
     }
 }
 
-// Makes more buckets, if there are no more of them than keys.
-fn make_buckets<K: Numbered>(links: &mut Links<K>) -> Result<(), AllocError>
+// Makes more buckets, if there are no more of them than so many keys.
+fn make_buckets<K: Numbered>(links: &mut Links<K>, keys: usize) -> Result<(), AllocError>
+    requires few { keys < 2 ^ 33 }
     requires chains { AreChains K.number links.old.multiplier links.old.heads.items
         links.old.keys.items links.old.before.items }
     ensures chains { AreChains K.number links.new.multiplier links.new.heads.items
@@ -122,7 +123,6 @@ fn make_buckets<K: Numbered>(links: &mut Links<K>) -> Result<(), AllocError>
     ensures room { vec_capacity links.new.before ≡ vec_capacity links.old.before }
     ensures ok { OnOk result (0 < length links.new.heads.items) }
 {
-    let keys = links.keys.len();
     if keys < links.heads.len() {
         return Ok(());
     }
@@ -231,10 +231,22 @@ impl<K: Numbered + Copy + Drop> Chains<K> {
         ensures err { OnErr result (self.new ≡ self.old) }
     {
         make_room(&mut self.links.keys, &mut self.links.before)?;
-        make_buckets(&mut self.links)?;
+        let keys = self.links.keys.len();
+        make_buckets(&mut self.links, keys)?;
         self.links.keys.push_reserved(key);
         link_next(&mut self.links);
         Ok(())
+    }
+
+    /// Makes room for so many more keys, so that their links are made once.
+    pub fn reserve(&mut self, more: u32) -> Result<(), AllocError>
+        ensures { self.new ≡ self.old }
+    {
+        let links = &mut self.links;
+        links.keys.reserve(more as usize)?;
+        links.before.reserve(more as usize)?;
+        let keys = links.keys.len() + more as usize;
+        make_buckets(links, keys)
     }
 
     /// Removes the last key. Takes no memory.

@@ -225,6 +225,14 @@ impl Store {
         Ok(())
     }
 
+    /// Makes room for the ids and fingerprints of so many more rows.
+    pub fn reserve(&mut self, more: u32) -> Result<(), Memory>
+        ensures { self.new ≡ self.old }
+    {
+        self.ids.reserve(more)?;
+        self.prints.reserve(more)
+    }
+
     /// Removes rows from the end, down to so many. Takes no memory.
     pub fn cut(&mut self, len: u32)
         requires { len ≤ length self.old.rows }

@@ -139,6 +139,9 @@ fn add_rows(
     let dims = schema.dims();
     let lens = lengths(dict, dims);
     let mut cell = Cell::any(alloc, dims);
+    if table.reserve(batch.insertions()).is_err() {
+        return Err(Refused::Memory);
+    }
     match insert_table_rows(table, dict, &mut cell, batch) {
         Ok(()) => Ok(()),
         Err(Learn::Full) => {
