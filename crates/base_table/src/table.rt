@@ -284,7 +284,8 @@ impl Table {
         self.is_open = true;
     }
 
-    /// Makes room for so many more rows. Insertions need no call of it, but many are faster after it.
+    /// Makes room for so many more rows. Insertions need no call of it, but many of them are faster
+    /// after it.
     pub fn reserve(&mut self, rows: u32) -> Result<(), Memory>
         ensures { self.new ≡ self.old }
     {

@@ -15,8 +15,8 @@ use std::mem::ManuallyDrop;
 use std::snapshot::Snapshot;
 
 /// A copy of the rows of a table in the order of their tuples: rows whose tuples begin alike lie
-/// next to each other. Tuples of one dimension keep the order of the table, since a walk groups them
-/// only once. The number of a row is its place in this order.
+/// next to each other. Tuples of one dimension keep the order of the table, since a walk groups
+/// them only once. The number of a row is its place in this order.
 #[derive(Drop)]
 pub struct SortedRows {
     dims: u8,

@@ -1,6 +1,6 @@
 -- What the lines of a script take is within what they may cost.
-use Rattle.std.proofs.Common.{◌≡◌, ◌≤◌, ◌<◌, ◌+◌, ◌*◌, ◌∙◌, ℕ, Bool, List, [], ◌∷◌, ◌++◌, length, true, false, refl, sym, ap, arith, append-nil}
-use Rattle.std.proofs.Common.{Option, Some, None, IfSome, inl, inr}
+use Rattle.std.proofs.Common.{◌≡◌, ◌≤◌, ◌<◌, ◌+◌, ◌*◌, ◌∙◌, ℕ, Bool, List, [], ◌∷◌, ◌++◌, length, true, false, refl}
+use Rattle.std.proofs.Common.{sym, ap, arith, append-nil, Option, Some, None, IfSome, inl, inr}
 use Rattle.std.specs.Prelude.{IsSomeAnd, Result, Ok, Err, OnOk, fold, nat_lt, if◌then◌else◌}
 use Rattle.std.specs.Option.{option_map}
 use Rattle.std.proofs.lemmas.Bool.Decides.{nat_tests}
@@ -26,8 +26,8 @@ use Rattle.warehouse.specs.Batch as batches
 use Rattle.warehouse.specs.Batch.{Applied, Refusal, result}
 use Rattle.warehouse.specs.InPlace.{IsAccepted, IsWithinCost}
 use Rattle.warehouse.specs.State.{State}
-use Rattle.qc_session.specs.Costs.{Costed, IsWithin, IsWithinScript, batch_cost, both_costs, changes_cost, costed_step, file_cost, item_cost}
-use Rattle.qc_session.specs.Costs.{line_cost, named_kind, query_cost, script_cost}
+use Rattle.qc_session.specs.Costs.{Costed, IsWithin, IsWithinScript, batch_cost, both_costs, changes_cost, costed_step, file_cost}
+use Rattle.qc_session.specs.Costs.{item_cost, line_cost, named_kind, query_cost, script_cost}
 use Rattle.qc_session.specs.Forms.{FileNames}
 use Rattle.qc_session.specs.Lines.{is_passed, script_lines}
 use Rattle.qc_session.specs.Pins.{PinnedState, unpinned}
