@@ -261,6 +261,7 @@ impl Pinned {
         requires name { is_new_name self.old.now.state.schema name.now ≡ true }
         requires value { length value.now ≤ MAX_TEXT }
         ensures pinned { (result ≡ Err PinnedWiden.Pinned) ↔ (0 < length self.old.pins) }
+        ensures still { result ≡ Err PinnedWiden.Pinned → steps.new ≡ steps.old }
         ensures gives { length self.old.pins ≡ 0 →
             Gives widen_refusal_in (applied_in self.new.now.state) result
             (widen_result self.old.now.state name.now value.now) }
@@ -268,8 +269,7 @@ impl Pinned {
             (KeepsWidened (length self.old.now.state.schema.dims) self.old.now.tree
             self.new.now.tree) }
         ensures steps { OnOk result
-            (steps.new ≤ steps.old + cost_of_widening (length self.old.now.state.schema.dims)
-            self.old.now.tree) }
+            (steps.new ≤ steps.old + cost_of_widening self.old.now.state) }
         ensures valid { AreContents self.new.now }
         ensures pins { self.new.pins ≡ self.old.pins }
         ensures err { OnErr result (self.new ≡ self.old) }

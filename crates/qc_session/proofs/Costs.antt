@@ -1,6 +1,6 @@
 -- What the lines of a script take is within what they may cost.
 use Rattle.std.proofs.Common.{◌≡◌, ◌≤◌, ◌<◌, ◌+◌, ◌*◌, ◌∙◌, ℕ, Bool, List, [], ◌∷◌, ◌++◌, length, true, false, refl}
-use Rattle.std.proofs.Common.{sym, ap, arith, append-nil, Option, Some, None, IfSome, inl, inr}
+use Rattle.std.proofs.Common.{sym, ap, arith, append-nil, map, Option, Some, None, IfSome, inl, inr}
 use Rattle.std.specs.Prelude.{IsSomeAnd, Result, Ok, Err, OnOk, fold, nat_lt, if◌then◌else◌}
 use Rattle.std.specs.Option.{option_map}
 use Rattle.std.proofs.lemmas.Bool.Decides.{nat_tests}
@@ -15,7 +15,8 @@ use Rattle.csv_load.specs.Files.{batch_in}
 use Rattle.cube_defs.specs.Text.{Text}
 use Rattle.cube_defs.specs.declared.limits.TheConstants.{MAX_FILE}
 use Rattle.qc_io.specs.Outside.{FileContents}
-use Rattle.query_answers.specs.Queries.{IsWithinSteps, names_kind}
+use Rattle.pinned_view.specs.Versions.{Version}
+use Rattle.query_answers.specs.Queries.{IsWithinSteps}
 use Rattle.query_script.specs.Commands.{command_in}
 use Rattle.query_script.specs.Faults.{LineFault}
 use Rattle.query_script.specs.Queries.{Point, query_in}
@@ -26,11 +27,12 @@ use Rattle.warehouse.specs.Batch as batches
 use Rattle.warehouse.specs.Batch.{Applied, Refusal, result}
 use Rattle.warehouse.specs.InPlace.{IsAccepted, IsWithinCost}
 use Rattle.warehouse.specs.State.{State}
+use Rattle.warehouse.specs.Widening.{WidenRefusal, cost_of_widening, widen_result}
 use Rattle.qc_session.specs.Costs.{Costed, IsWithin, IsWithinScript, batch_cost, both_costs, changes_cost, costed_step, file_cost}
-use Rattle.qc_session.specs.Costs.{item_cost, line_cost, named_kind, query_cost, script_cost}
+use Rattle.qc_session.specs.Costs.{item_cost, line_cost, named_kind, query_cost, script_cost, widen_cost, widening_cost}
 use Rattle.qc_session.specs.Forms.{FileNames}
 use Rattle.qc_session.specs.Lines.{is_passed, script_lines}
-use Rattle.qc_session.specs.Pins.{PinnedState, unpinned}
+use Rattle.qc_session.specs.Pins.{PinnedState, pin_in, unpinned}
 use Rattle.qc_session.specs.Runs.{IsScriptOf, IsStartOf, Took}
 use Rattle.qc_session.specs.Session.{Skips}
 use Rattle.qc_session.specs.Transcript.{Item, Run, is_skipped, item, items, run_at, step, transcript}
@@ -58,15 +60,48 @@ if-named : (b : Bool) (most from to : ℕ) → (b ≡ true → to ≤ from + mos
 if-named true most from to h = h refl
 if-named false most from to h = tt
 
-pub query-within : (s : State) (query : Query) (from to : ℕ) → IsWithinSteps s (names_kind s.schema) query from to
-    → IsWithin (query_cost s (query_in query)) from to
-query-within s (queries.Point asked) from to w = w
-query-within s (queries.Range asked) from to w = w
-query-within s (queries.Bounds asked) from to w = w
-query-within s (queries.Iceberg kind bound value) from to w
-    = rw (named-in kind) (if-named (names_kind s.schema kind) _ from to w)
-query-within s queries.Stats from to w = omega (arith, w)
-query-within s query from to w = tt
+pub query-within : (s : State) (has_index : AggKind → Bool) (query : Query) (from to : ℕ)
+    → IsWithinSteps s has_index query from to → IsWithin (query_cost s has_index (query_in query)) from to
+query-within s has_index (queries.Point asked) from to w = w
+query-within s has_index (queries.Range asked) from to w = w
+query-within s has_index (queries.Bounds asked) from to w = w
+query-within s has_index (queries.Iceberg kind bound value) from to w
+    = rw (named-in kind) (if-named (has_index kind) _ from to w)
+query-within s has_index queries.Stats from to w = omega (arith, w)
+query-within s has_index query from to w = tt
+
+-- the same of a query that no index answers
+pub bare-within : (s : State) (has_index : AggKind → Bool) (query : Query) (from to : ℕ)
+    → IsWithinSteps s has_index query from to → IsWithin (query_cost s (λ kind. false) (query_in query)) from to
+bare-within s has_index (queries.Point asked) from to w = w
+bare-within s has_index (queries.Range asked) from to w = w
+bare-within s has_index (queries.Bounds asked) from to w = w
+bare-within s has_index (queries.Iceberg kind bound value) from to w = tt
+bare-within s has_index queries.Stats from to w = omega (arith, w)
+bare-within s has_index query from to w = tt
+
+-- where a name is pinned, no dimension comes
+pub pinned-within : (s : State) (pins : List Version) (name value : Text) (n : ℕ) → 0 < length pins
+    → IsWithin (widen_cost s (map pin_in pins) name value) n n
+pinned-within s [] name value n some = absurd (omega (arith, some))
+pinned-within s (pin ∷ pins) name value n some = no-steps n
+
+-- a dimension that came
+pub widened-within : (s : State) (pins : List Version) (name value : Text) (from to : ℕ) → (0 < length pins → ⊥)
+    → to ≤ from + cost_of_widening s → IsWithin (widen_cost s (map pin_in pins) name value) from to
+widened-within s (pin ∷ pins) name value from to free w = absurd (free (omega arith))
+widened-within s [] name value from to free w = by (widen_result s name value)
+  where
+    by : (r : Result Applied WidenRefusal) → IsWithin (widening_cost s r) from to
+    by (Err refusal) = tt
+    by (Ok applied) = w
+
+-- one that was refused
+pub unwidened-within : (s : State) (pins : List Version) (name value : Text) (refusal : WidenRefusal) (from to : ℕ)
+    → (0 < length pins → ⊥) → (length pins ≡ 0 → widen_result s name value ≡ Err refusal)
+    → IsWithin (widen_cost s (map pin_in pins) name value) from to
+unwidened-within s (pin ∷ pins) name value refusal from to free is = absurd (free (omega arith))
+unwidened-within s [] name value refusal from to free is = rw (is refl) tt
 
 -- a batch that was read and taken
 pub batch-within : (s : State) (bytes : List ℕ) (from to : ℕ) → length bytes ≤ MAX_FILE
@@ -111,22 +146,23 @@ file-within (Some t) name s from to h = by (t name) h
     by (Some bytes) h = h refl
 
 -- a line with a fault
-pub fault-within : {Texts : Type 0} (told : Option FileContents) (s : State) (line : List ℕ) (n : ℕ)
+pub fault-within : {Texts : Type 0} (told : Option FileContents) (s : PinnedState) (line : List ℕ) (n : ℕ)
     (fault : Option LineFault) (texts_of : LineFault → Texts) (words : Texts) → Some words ≡ option_map texts_of fault
-    → IfSome fault (λ f. command_in s.schema line ≡ Err f) → IfSome told (λ t. IsWithin (line_cost s t line) n n)
+    → IfSome fault (λ f. command_in s.state.schema line ≡ Err f) → IfSome told (λ t. IsWithin (line_cost s t line) n n)
 fault-within None s line n fault texts_of words is read = tt
 fault-within (Some t) s line n None texts_of words is read = absurd (cc)
 fault-within (Some t) s line n (Some f) texts_of words is read = rw read (no-steps n)
 
 -- a line that asks a point
-pub point-within : (told : Option FileContents) (s : State) (line : List ℕ) (from to : ℕ) (Answers : List Field → Type 0)
-    → (asked : List Field) × (command_in s.schema line ≡ Ok (Ask (Point asked))) × Answers asked
-    → to ≤ from + (2 * length s.schema.dims + 3) → IfSome told (λ t. IsWithin (line_cost s t line) from to)
+pub point-within : (told : Option FileContents) (s : PinnedState) (line : List ℕ) (from to : ℕ)
+    (Answers : List Field → Type 0)
+    → (asked : List Field) × (command_in s.state.schema line ≡ Ok (Ask (Point asked))) × Answers asked
+    → to ≤ from + (2 * length s.state.schema.dims + 3) → IfSome told (λ t. IsWithin (line_cost s t line) from to)
 point-within None s line from to Answers asks w = tt
 point-within (Some t) s line from to Answers (asked, command, answers) w = rw command w
 
 -- a line that is answered, skipped or passed over
-pub answered-within : (told : Option FileContents) (s : State) (skipped : List ℕ) (number : ℕ) (line : List ℕ)
+pub answered-within : (told : Option FileContents) (s : PinnedState) (skipped : List ℕ) (number : ℕ) (line : List ℕ)
     (from to : ℕ) → is_passed line ≡ false → IfSome told (λ t. IsWithin (line_cost s t line) from to)
     → IfSome told (λ t. IsWithin (item_cost s t (item skipped number line)) from to)
 answered-within None s skipped number line from to taken h = tt
@@ -136,14 +172,14 @@ answered-within (Some t) s skipped number line from to taken h = rw taken (by (i
     by true = tt
     by false = h
 
-pub skipped-within : (told : Option FileContents) (s : State) (skipped new : List ℕ) (number : ℕ) (line : List ℕ)
+pub skipped-within : (told : Option FileContents) (s : PinnedState) (skipped new : List ℕ) (number : ℕ) (line : List ℕ)
     (from to : ℕ) → is_passed line ≡ false → new ≡ skipped ++ (number + 1) ∷ []
     → IfSome told (λ t. IsWithin (item_cost s t (item new (number + 1) line)) from to)
 skipped-within None s skipped new number line from to taken more = tt
 skipped-within (Some t) s skipped new number line from to taken more
     = rw (taken, more, skipped_now number skipped) tt
 
-pub passed-within : (told : Option FileContents) (s : State) (skipped : List ℕ) (number : ℕ) (line : List ℕ) (n : ℕ)
+pub passed-within : (told : Option FileContents) (s : PinnedState) (skipped : List ℕ) (number : ℕ) (line : List ℕ) (n : ℕ)
     → is_passed line ≡ true → IfSome told (λ t. IsWithin (item_cost s t (item skipped number line)) n n)
 passed-within None s skipped number line n passed = tt
 passed-within (Some t) s skipped number line n passed = rw passed (no-steps n)
@@ -158,13 +194,13 @@ costed-run t c (x ∷ xs) = costed-run t (costed_step t c x) xs
 
 -- what one line more costs after a run
 abbrev cost_after : FileContents → Option ℕ → Item → Run → Option ℕ
-cost_after t cost line run = if run.lacked then cost else both_costs cost (item_cost run.state.state t line)
+cost_after t cost line run = if run.lacked then cost else both_costs cost (item_cost run.state t line)
 
 -- the lines so far with one line more
 cost-push : (t : FileContents) (start : State) (skipped : List ℕ) (lines : List (List ℕ)) (line : List ℕ)
     (state : PinnedState) (replies : List ℕ) → Took t start skipped lines state replies
     → script_cost t start skipped (lines ++ line ∷ [])
-    ≡ both_costs (script_cost t start skipped lines) (item_cost state.state t (item skipped (length lines + 1) line))
+    ≡ both_costs (script_cost t start skipped lines) (item_cost state t (item skipped (length lines + 1) line))
 unfolding script_cost transcript
 cost-push t start skipped lines line state replies took =
     let num : 0 + length lines + 1 ≡ length lines + 1 = omega arith in
@@ -173,7 +209,7 @@ cost-push t start skipped lines line state replies took =
     ap (λ (xs : List Item). (fold (costed_step t) (fresh start) xs).cost) (items-push skipped 0 lines line)
     ∙ ap (λ (c : Costed). c.cost) (fold-append (costed_step t) (fresh start) (items skipped 0 lines) (here ∷ []))
     ∙ ap (cost_after t before here) (costed-run t (fresh start) (items skipped 0 lines) ∙ took.is)
-    ∙ ap (λ m. both_costs before (item_cost state.state t (item skipped m line))) num
+    ∙ ap (λ m. both_costs before (item_cost state t (item skipped m line))) num
 
 -- a number past all lines makes no difference
 cost-skips : (t : FileContents) (start : State) (skipped new : List ℕ) (lines : List (List ℕ)) (line : List ℕ)
@@ -201,7 +237,7 @@ pub within-push : (told : Option FileContents) (start : State) (skipped new : Li
     (line : List ℕ) (number : ℕ) (state : PinnedState) (kept : List ℕ) (first before : Option (List ℕ))
     (from mid to : ℕ) → length lines ≡ number → Skips skipped (number + 1) line new
     → GatheredSoFar told start skipped lines state kept first before → IsWithinSoFar told start skipped lines from mid
-    → IfSome told (λ t. IsWithin (item_cost state.state t (item new (number + 1) line)) mid to)
+    → IfSome told (λ t. IsWithin (item_cost state t (item new (number + 1) line)) mid to)
     → IsWithinSoFar told start new (lines ++ line ∷ []) from to
 within-push None start skipped new lines line number state kept first before from mid to len skips w h more = tt
 within-push (Some t) start skipped new lines line number state kept first before from mid to len skips w h more =

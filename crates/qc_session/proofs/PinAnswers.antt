@@ -26,7 +26,7 @@ taken-is-not-full : (r : Result (Unit {0}) PinRefused) → r ≡ Err NameTaken �
 taken-is-not-full r taken full = cc
 
 -- the rows of a name are those of its version
-rows-of : (versions : List Version) (name : Text)
+pub rows-of : (versions : List Version) (name : Text)
     → rows_at (map pin_in versions) name ≡ option_map (λ version. version.rows) (version_of versions name)
 rows-of [] name = refl
 rows-of (version ∷ versions) name = by (bytes_eq version.name name) (rows-of versions name)

@@ -1,12 +1,13 @@
 -- What the lines of a script may cost, in steps.
 use Rattle.std.specs.Prelude.{ℕ, ◌+◌, ◌*◌, ◌^◌, ◌≤◌, Option, Some, None, IfSome, List, [], length, fold, nat_lt, Result, Ok, Err}
-use Rattle.std.specs.Prelude.{if◌then◌else◌}
+use Rattle.std.specs.Prelude.{if◌then◌else◌, Bool, false, ◌∷◌}
 use Rattle.aggregates.specs.declared.kind.AggKind as declared
 use Rattle.aggregates.specs.declared.kind.AggKind.TheVariants as kinds
 use Rattle.csv_load.specs.Batch.{Change}
 use Rattle.csv_load.specs.Faults.{Fault}
 use Rattle.csv_load.specs.Files.{batch_in}
 use Rattle.cube_defs.specs.Answers.{AggKind, Count, Greatest, Least, Mean, Sum}
+use Rattle.cube_defs.specs.Rows.{Row}
 use Rattle.cube_defs.specs.Text.{Text}
 use Rattle.cube_defs.specs.declared.limits.TheConstants.{MAX_FILE}
 use Rattle.qc_io.specs.Outside.{FileContents}
@@ -19,10 +20,11 @@ use Rattle.query_script.specs.Questions as asks
 use Rattle.query_script.specs.Questions.{Question}
 use Rattle.warehouse.specs.Batch.{Applied, Apply, Refusal, result}
 use Rattle.warehouse.specs.InPlace.{cost_in}
-use Rattle.warehouse.specs.State.{State}
+use Rattle.warehouse.specs.State.{State, with_rows}
+use Rattle.warehouse.specs.Widening.{WidenRefusal, cost_of_widening, widen_result}
 use Rattle.qc_session.specs.Forms.{FileNames}
 use Rattle.qc_session.specs.Lines.{is_passed, script_lines}
-use Rattle.qc_session.specs.Pins.{unpinned}
+use Rattle.qc_session.specs.Pins.{Pin, PinnedState, rows_at, unpinned}
 use Rattle.qc_session.specs.Runs.{IsScriptOf, IsStartOf}
 use Rattle.qc_session.specs.Transcript.{Item, Run, items, run_at, step}
 
@@ -46,18 +48,23 @@ named_kind (Least m) = kinds.Least m
 named_kind (Greatest m) = kinds.Greatest m
 named_kind (Mean m) = kinds.Mean m
 
--- A query of the present rows. No bound is claimed of an iceberg without an index, and of the other queries: `parents`,
--- `children` and `rollup`.
-abbrev pub query_cost : State → Query → Option ℕ
-query_cost s (queries.Point asked) = Some (2 * length s.schema.dims + 3)
-query_cost s (queries.Range asked) = Some (3 * (1 + work_of s asked))
-query_cost s (queries.Bounds asked) = Some (7 * (length s.schema.dims + 1) * 2 ^ length s.schema.dims)
-query_cost s (queries.Iceberg kind bound value) =
-    if names_kind s.schema (named_kind kind)
+-- A query of a state's rows, by the kinds that have an index. No bound is claimed of an iceberg without an index, and of
+-- the other queries: `parents`, `children` and `rollup`.
+abbrev pub query_cost : State → (declared.AggKind → Bool) → Query → Option ℕ
+query_cost s has_index (queries.Point asked) = Some (2 * length s.schema.dims + 3)
+query_cost s has_index (queries.Range asked) = Some (3 * (1 + work_of s asked))
+query_cost s has_index (queries.Bounds asked) = Some (7 * (length s.schema.dims + 1) * 2 ^ length s.schema.dims)
+query_cost s has_index (queries.Iceberg kind bound value) =
+    if has_index (named_kind kind)
     then Some (length (classes_of s kind bound value) * steps_of_class s.schema)
     else None
-query_cost s queries.Stats = Some 0
-query_cost s query = None
+query_cost s has_index queries.Stats = Some 0
+query_cost s has_index query = None
+
+-- a query of the rows of a pin, which have no index; a name that isn't pinned is refused at once
+abbrev pub cost_over : State → Query → Option (List (Row Text)) → Option ℕ
+cost_over s query None = Some 0
+cost_over s query (Some rows) = query_cost (with_rows s rows) (λ kind. false) query
 
 -- the changes of a batch that a state takes; no bound is claimed of a batch that is refused
 abbrev pub changes_cost : State → Result (List (Change Text)) Fault → Result Applied Refusal → Option ℕ
@@ -75,24 +82,34 @@ abbrev pub file_cost : State → Option (List ℕ) → Option ℕ
 file_cost s None = None
 file_cost s (Some bytes) = batch_cost s bytes
 
--- What a line asks, or its fault. No bound is claimed of `load`, `widen`, `pin` and `at`.
-abbrev pub question_cost : State → FileContents → Result Question LineFault → Option ℕ
+-- a new dimension; no bound is claimed of one that is refused
+abbrev pub widening_cost : State → Result Applied WidenRefusal → Option ℕ
+widening_cost s (Err refusal) = None
+widening_cost s (Ok applied) = Some (cost_of_widening s)
+
+-- where a name is pinned, no dimension comes
+abbrev pub widen_cost : State → List Pin → Text → Text → Option ℕ
+widen_cost s [] name value = widening_cost s (widen_result s name value)
+widen_cost s (pin ∷ pins) name value = Some 0
+
+-- What a line asks, or its fault. No bound is claimed of `load`.
+abbrev pub question_cost : PinnedState → FileContents → Result Question LineFault → Option ℕ
 question_cost s told (Err fault) = Some 0
 question_cost s told (Ok (asks.Load name)) = None
-question_cost s told (Ok (asks.Apply name)) = file_cost s (told name)
-question_cost s told (Ok (asks.Try name)) = file_cost s (told name)
-question_cost s told (Ok (asks.Widen name value)) = None
-question_cost s told (Ok (asks.Pin name)) = None
+question_cost s told (Ok (asks.Apply name)) = file_cost s.state (told name)
+question_cost s told (Ok (asks.Try name)) = file_cost s.state (told name)
+question_cost s told (Ok (asks.Widen name value)) = widen_cost s.state s.pins name value
+question_cost s told (Ok (asks.Pin name)) = Some 0
 question_cost s told (Ok (asks.Unpin name)) = Some 0
-question_cost s told (Ok (asks.At name query)) = None
-question_cost s told (Ok (asks.Ask query)) = query_cost s query
+question_cost s told (Ok (asks.At name query)) = cost_over s.state query (rows_at s.pins name)
+question_cost s told (Ok (asks.Ask query)) = query_cost s.state (names_kind s.state.schema) query
 
 -- a line that is answered
-abbrev pub line_cost : State → FileContents → List ℕ → Option ℕ
-line_cost s told line = question_cost s told (command_in s.schema line)
+abbrev pub line_cost : PinnedState → FileContents → List ℕ → Option ℕ
+line_cost s told line = question_cost s told (command_in s.state.schema line)
 
 -- a line of a script; no bound is claimed of one that is skipped for want of memory
-abbrev pub item_cost : State → FileContents → Item → Option ℕ
+abbrev pub item_cost : PinnedState → FileContents → Item → Option ℕ
 item_cost s told item =
     if is_passed item.line then Some 0
     else if item.skipped then None
@@ -107,7 +124,7 @@ pub record Costed : Type 0 where
 abbrev pub costed_step : FileContents → Costed → Item → Costed
 costed_step told c item = record {
   run = step told c.run item;
-  cost = if c.run.lacked then c.cost else both_costs c.cost (item_cost c.run.state.state told item);
+  cost = if c.run.lacked then c.cost else both_costs c.cost (item_cost c.run.state told item);
 }
 
 -- all lines of a script, from the state at which a run starts

@@ -10,7 +10,7 @@ ghost use Rattle.warehouse.specs.State.{State};
 ghost use Rattle.qc_session.specs.Answers.{answer, answer_to, with_pins, change_answer, file_answer, file_named, file_of};
 ghost use Rattle.qc_session.specs.Costs.{IsWithin, batch_cost, line_cost, query_cost, question_cost};
 ghost use Rattle.qc_session.specs.Pins.{pinned_state_in};
-ghost use Rattle.query_answers.specs.Queries.{query_reply};
+ghost use Rattle.query_answers.specs.Queries.{names_kind, query_reply};
 ghost use Rattle.query_script.specs.Commands.{IsQuery};
 ghost use Rattle.query_script.specs.Queries as queries;
 ghost use Rattle.query_script.specs.Queries.{query_in};
@@ -193,7 +193,8 @@ fn present_reply<L: Ledger>(
         (λ reply. reply_bytes reply ≡ query_reply pinned.now.now.state number (query_in query)) }
     ensures memory { OnErr result (query_in query ≢ queries.Stats) }
     ensures steps { OnOk result
-        (IsWithin (query_cost pinned.now.now.state (query_in query)) steps.old steps.new) }
+        (IsWithin (query_cost pinned.now.now.state (names_kind pinned.now.now.state.schema)
+        (query_in query)) steps.old steps.new) }
 {
     answer_present(alloc, pinned.now(), number, &query, steps)
 }
@@ -214,7 +215,7 @@ fn answer_without_file<L: Ledger>(
         → answer_to (pinned_state_in pinned.old) t number (Ok (question_in command))
         ≡ Some (record { state = pinned_state_in pinned.new; reply = reply_bytes reply })) }
     ensures steps { OnOk result ((t : FileContents)
-        → IsWithin (question_cost pinned.old.now.state t (Ok (question_in command)))
+        → IsWithin (question_cost (pinned_state_in pinned.old) t (Ok (question_in command)))
         steps.old steps.new) }
 {
     match command {
@@ -252,7 +253,7 @@ fn answer_command<F: Files, L: Ledger>(
         (λ t. answer_to (pinned_state_in pinned.old) t number (Ok (question_in command))
         ≡ Some (record { state = pinned_state_in pinned.new; reply = reply_bytes reply }))) }
     ensures steps { OnOk result (IfSome (F.told files.old)
-        (λ t. IsWithin (question_cost pinned.old.now.state t (Ok (question_in command)))
+        (λ t. IsWithin (question_cost (pinned_state_in pinned.old) t (Ok (question_in command)))
         steps.old steps.new)) }
 {
     match command {
@@ -299,7 +300,7 @@ pub fn answer_line<F: Files, L: Ledger>(
         (λ t. answer (pinned_state_in pinned.old) t number line.now
         ≡ Some (record { state = pinned_state_in pinned.new; reply = reply_bytes reply }))) }
     ensures steps { OnOk result (IfSome (F.told files.old)
-        (λ t. IsWithin (line_cost pinned.old.now.state t line.now) steps.old steps.new)) }
+        (λ t. IsWithin (line_cost (pinned_state_in pinned.old) t line.now) steps.old steps.new)) }
 {
     match read_line(alloc, pinned.now().schema(), line) {
         Ok(command) => answer_command(alloc, files, pinned, number, command, steps),

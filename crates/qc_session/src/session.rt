@@ -48,6 +48,7 @@ impl Session {
     }
 }
 
+ghost use Rattle.qc_session.specs.Pins.{pinned_state_in};
 ghost use Rattle.qc_session.specs.Runs.{AreUpTo};
 ghost use Rattle.qc_session.specs.Session.{LineEnds, LinesEnd, Puts};
 ghost use Rattle.qc_session.specs.Transcript.{item};
@@ -112,7 +113,7 @@ fn carry_out<F: Files, O: Sink, L: Ledger>(
         (Rose (O.faults out.old) (O.faults out.new))
         line.now session.old session.new (O.taken out.old) (O.taken out.new) result }
     ensures steps { OnOk result (IfSome (F.told files.old)
-        (λ t. IsWithin (item_cost session.old.pinned.now.state t
+        (λ t. IsWithin (item_cost (pinned_state_in session.old.pinned) t
         (item session.new.skipped.items (session.old.number + 1) line.now)) steps.old steps.new)) }
 {
     let number = session.number + 1;
@@ -151,7 +152,7 @@ fn take_line<F: Files, O: Sink, L: Ledger>(
         (Rose (O.faults out.old) (O.faults out.new))
         line.now session.old session.new (O.taken out.old) (O.taken out.new) result }
     ensures steps { OnOk result (IfSome (F.told files.old)
-        (λ t. IsWithin (item_cost session.old.pinned.now.state t
+        (λ t. IsWithin (item_cost (pinned_state_in session.old.pinned) t
         (item session.new.skipped.items (session.old.number + 1) line.now)) steps.old steps.new)) }
 {
     if is_ignored(line) {

@@ -1,10 +1,11 @@
 // A new dimension.
-ghost use Rattle.std.specs.Prelude.{IfOk, IfSome, OnErr, length, true, ◌≡◌, ◌≤◌};
+ghost use Rattle.std.specs.Prelude.{IfOk, IfSome, OnErr, OnOk, length, true, ◌≡◌, ◌≤◌};
 ghost use Rattle.qc_schema.specs.Grammar.{is_new_name};
 ghost use Rattle.reply_text.specs.Replies.{refused_text, widen_texts};
 ghost use Rattle.reply_text.specs.Words.{reply_bytes};
 ghost use Rattle.warehouse.specs.Widening.{widen_refusal_in};
 ghost use Rattle.qc_session.specs.Answers.{widen_with};
+ghost use Rattle.qc_session.specs.Costs.{IsWithin, widen_cost};
 ghost use Rattle.qc_session.specs.Pins.{pinned_state_in};
 
 use cell_core::{Memory, Steps, Text};
@@ -42,6 +43,8 @@ pub fn answer_widen<L: Ledger>(
         name.now value.now
         ≡ record { state = pinned_state_in pinned.new; reply = reply_bytes reply }) }
     ensures same { OnErr result (pinned.new ≡ pinned.old) }
+    ensures steps { OnOk result (IsWithin (widen_cost pinned.old.now.state
+        (pinned_state_in pinned.old).pins name.now value.now) steps.old steps.new) }
 {
     match pinned.widen(name.as_str(), value.as_str(), steps) {
         Ok(taken) => {

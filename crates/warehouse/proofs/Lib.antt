@@ -20,4 +20,5 @@ mod MovedClasses
 mod Wider
 mod Images
 mod Batches
+mod Sizes
 pub mod CallerLemmas

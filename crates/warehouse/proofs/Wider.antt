@@ -31,7 +31,7 @@ use Rattle.warehouse.specs.NodeLists.{cost_of_listing}
 use Rattle.warehouse.specs.Steps.{frame}
 use Rattle.warehouse.specs.Stored.{IsStored, IsTreeOfTable, state_of}
 use Rattle.warehouse.specs.State.{State}
-use Rattle.warehouse.specs.Widening.{KeepsWidened, WidenRefusal, cost_of_widening, nodes_then, widen_refusal_in, widen_result, widened}
+use Rattle.warehouse.specs.Widening.{KeepsWidened, WidenRefusal, nodes_then, size_of, steps_of_widening, widen_refusal_in, widen_result, widened}
 use Rattle.warehouse.specs.Widening as wide
 use Rattle.warehouse.specs.declared.refused.WidenRefused.{WidenRefused}
 use Rattle.warehouse.specs.declared.refused.WidenRefused.TheVariants as refusals
@@ -220,7 +220,7 @@ kept-wide schema table tree dims long closed width max few from = record {
 
 -- what listing the nodes, handing the classes on and filling the index costs is within what a dimension may cost
 pub cost-wide : (dims : ℕ) (tree : Tree ℕ) (count from listed to : ℕ) → count ≤ finmap.len tree
-    → listed ≤ from + cost_of_listing tree → to ≤ listed + 9 * count → to ≤ from + cost_of_widening dims tree
+    → listed ≤ from + cost_of_listing tree → to ≤ listed + 9 * count → to ≤ from + steps_of_widening dims (size_of tree)
 cost-wide dims tree count from listed to few first rest =
     let within = mul-le 16 (finmap.len tree + edges_in tree + 1) (16 * (dims + 1))
     (finmap.len tree + edges_in tree + 1) (omega arith) (omega arith) in

@@ -7,6 +7,7 @@ use Rattle.qc_arena.specs.Map.{edges_in}
 use Rattle.qc_schema.specs.Schema.{max_dims, with_dim}
 use Rattle.widen_laws.specs.Widened.{IsWidened, all_longer}
 use Rattle.warehouse.specs.Batch.{Applied}
+use Rattle.warehouse.specs.Counted.{tree_size}
 use Rattle.warehouse.specs.State.{State}
 use Rattle.warehouse.specs.declared.refused.WidenRefused.{WidenRefused}
 use Rattle.warehouse.specs.declared.refused.WidenRefused.TheVariants as refusals
@@ -54,6 +55,14 @@ widen_refusal_in refusals.Memory = None
 abbrev pub KeepsWidened : ℕ → Tree ℕ → Tree ℕ → Type 0
 KeepsWidened dims before now = (child : ℕ → ℕ) × IsWidened dims 0 child before now
 
--- the most steps, by the dimensions and the tree before it
-abbrev pub cost_of_widening : ℕ → Tree ℕ → ℕ
-cost_of_widening dims tree = 16 * (dims + 1) * (finmap.len tree + edges_in tree + 1)
+-- how many nodes and edges a tree has
+abbrev pub size_of : Tree ℕ → ℕ
+size_of tree = finmap.len tree + edges_in tree
+
+-- the most steps, by the dimensions before it and by how many nodes and edges there are
+abbrev pub steps_of_widening : ℕ → ℕ → ℕ
+steps_of_widening dims size = 16 * (dims + 1) * (size + 1)
+
+-- the same of the rows of a state
+abbrev pub cost_of_widening : State → ℕ
+cost_of_widening s = steps_of_widening (length s.schema.dims) (tree_size s.rows)

@@ -421,8 +421,7 @@ impl Warehouse {
         ensures records { OnOk result
             (KeepsWidened (length self.old.state.schema.dims) self.old.tree self.new.tree) }
         ensures steps { OnOk result
-            (steps.new ≤ steps.old + cost_of_widening (length self.old.state.schema.dims)
-            self.old.tree) }
+            (steps.new ≤ steps.old + cost_of_widening self.old.state) }
         ensures valid { AreContents self.new }
         ensures state { OnErr result (self.new.state ≡ self.old.state) }
         ensures tree { OnErr result (self.new.tree ≡ self.old.tree) }

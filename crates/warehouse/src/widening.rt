@@ -22,7 +22,7 @@ ghost use Rattle.warehouse.specs.ClassMoves.{MovesClassTo, HasChild, IsWide, wit
 ghost use Rattle.warehouse.specs.NodeLists.{AreNodesOf, MovesClassOf};
 ghost use Rattle.warehouse.specs.State.{IsIndexed};
 ghost use Rattle.warehouse.specs.Stored.{applied_in};
-ghost use Rattle.warehouse.specs.Widening.{KeepsWidened, cost_of_widening, widen_refusal_in, widen_result};
+ghost use Rattle.warehouse.specs.Widening.{KeepsWidened, size_of, steps_of_widening, widen_refusal_in, widen_result};
 
 use crate::Memory;
 use crate::cube::Cube;
@@ -314,7 +314,8 @@ pub(crate) fn widen<L: Ledger>(
     ensures records { OnOk result
         (KeepsWidened (length schema.old.dims) cube.old.tree.now cube.new.tree.now) }
     ensures steps { OnOk result
-        (steps.new ≤ steps.old + cost_of_widening (length schema.old.dims) cube.old.tree.now) }
+        (steps.new ≤ steps.old + steps_of_widening (length schema.old.dims)
+        (size_of cube.old.tree.now)) }
     ensures same { OnErr result
         (contents_of schema.new cube.new index.new ≡ contents_of schema.old cube.old index.old) }
     ensures parts { AreParts schema.new cube.new index.new }

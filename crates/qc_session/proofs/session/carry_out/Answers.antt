@@ -41,7 +41,7 @@ returns-in-Err-Memory g c =
           (ap (λ (v : Versions). pinned_state_in v) (skip.kept.1 ∙ e.same)) c.in-Ok.ensures.ok
           (rose-later _ _ _ c.flush_if.ensures.cause.later) skip.puts;
       steps = on-ok c.skip_line.result _ (skipped-within (g.F.Files.told c.args.files.now)
-          c.args.session.now.pinned.now.state _ _ _ c.args.line.now c.args.steps.now c.answer_line.new.steps
+          (pinned_state_in c.args.session.now.pinned) _ _ _ c.args.line.now c.args.steps.now c.answer_line.new.steps
           c.requires.taken skip.skipped);
     }
 

@@ -14,7 +14,7 @@ returns-then-is_ignored g c =
       stay = stay-same _ _ _;
       later = later-same _;
       ends = ends-passed _ refl refl passed;
-      steps = passed-within (g.F.Files.told c.args.files.now) c.args.session.now.pinned.now.state
+      steps = passed-within (g.F.Files.told c.args.files.now) (pinned_state_in c.args.session.now.pinned)
           c.args.session.now.skipped.items (c.args.session.now.number + 1) c.args.line.now c.args.steps.now passed;
     }
 
@@ -30,10 +30,10 @@ returns-in-Some-Ok g c =
       ends = ends-answered c.put_reply.result _ _ _ _ refl refl taken c.requires.up_to asked
           (handed-none c.args.session.now.pending (g.O.Sink.taken c.args.out.now)) (λ b. b)
           (rw c.deref.ensures.value at c.put_reply.ensures.puts);
-      steps = on-ok c.put_reply.result _ (answered-within told c.args.session.now.pinned.now.state
+      steps = on-ok c.put_reply.result _ (answered-within told (pinned_state_in c.args.session.now.pinned)
           c.args.session.now.skipped.items (c.args.session.now.number + 1) c.args.line.now c.args.steps.now
           c.answer_plain_point.new.steps taken
-          (point-within told c.args.session.now.pinned.now.state c.args.line.now c.args.steps.now
+          (point-within told (pinned_state_in c.args.session.now.pinned) c.args.line.now c.args.steps.now
           c.answer_plain_point.new.steps _ point (rw c.now.ensures.value at c.in-Some-Ok.ensures.steps)));
     }
 
@@ -49,7 +49,7 @@ returns-in-Some-Err g c =
           (ap (λ (v : Versions). pinned_state_in v) skip.kept.1)
           (handed-none c.args.session.now.pending (g.O.Sink.taken c.args.out.now)) (λ b. b) skip.puts;
       steps = on-ok c.skip_line.result _ (skipped-within (g.F.Files.told c.args.files.now)
-          c.args.session.now.pinned.now.state _ _ _ c.args.line.now c.args.steps.now c.answer_plain_point.new.steps taken
+          (pinned_state_in c.args.session.now.pinned) _ _ _ c.args.line.now c.args.steps.now c.answer_plain_point.new.steps taken
           skip.skipped);
     }
 

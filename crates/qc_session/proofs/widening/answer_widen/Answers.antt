@@ -3,6 +3,8 @@ use Rattle.std.proofs.lemmas.Result.{IfOk-weaker}
 use Rattle.cube_defs.specs.Text.{Text}
 use Rattle.reply_text.specs.Replies.{refused_text}
 use Rattle.warehouse.specs.Widening.{DimsFull, NodesFull}
+use Rattle.qc_session.proofs.Answered.{on-ok}
+use Rattle.qc_session.proofs.Costs.{pinned-within, unwidened-within, widened-within}
 use Rattle.qc_session.proofs.FlushLemmas.{on_err}
 use Rattle.qc_session.proofs.Widened.{widen-pinned, widen-refused}
 use Rattle.qc_session.proofs.widening.answer_widen.Goals as goal
@@ -16,6 +18,9 @@ returns-in-Err-Pinned g c =
           (c.refused.ensures ∙ ap (λ (texts : List Text). refused_text c.args.number texts)
           c.pinned_refusal.ensures.texts));
       same = tt;
+      steps = rw (e.still (ap Err c.in-Err-Pinned.field-0-is)) (pinned-within c.args.pinned.now.now.state
+          c.args.pinned.now.pins c.args.name.now c.args.value.now c.args.steps.now
+          (e.pinned.0 (ap Err c.in-Err-Pinned.field-0-is)));
     }
 
 pub returns-in-Err-DimsFull : goal.returns-in-Err-DimsFull
@@ -28,6 +33,8 @@ returns-in-Err-DimsFull g c =
           (λ reply made. widen-refused c.args.pinned.now c.args.number c.args.name.now c.args.value.now DimsFull _
           (λ some. cc (other some)) gives made) c.refused_widening.ensures);
       same = on_err c.refused_widening.result e.err;
+      steps = on-ok c.refused_widening.result _ (unwidened-within c.args.pinned.now.now.state c.args.pinned.now.pins
+          c.args.name.now c.args.value.now DimsFull c.args.steps.now c.widen.new.steps (λ some. cc (other some)) gives);
     }
 
 pub returns-in-Err-NodesFull : goal.returns-in-Err-NodesFull
@@ -40,4 +47,11 @@ returns-in-Err-NodesFull g c =
           (λ reply made. widen-refused c.args.pinned.now c.args.number c.args.name.now c.args.value.now NodesFull _
           (λ some. cc (other some)) gives made) c.refused_widening-in-Err-NodesFull.ensures);
       same = on_err c.refused_widening-in-Err-NodesFull.result e.err;
+      steps = on-ok c.refused_widening-in-Err-NodesFull.result _ (unwidened-within c.args.pinned.now.now.state c.args.pinned.now.pins
+          c.args.name.now c.args.value.now NodesFull c.args.steps.now c.widen.new.steps (λ some. cc (other some)) gives);
     }
+
+pub returns-in-Ok-clause-steps : goal.returns-in-Ok-clause-steps
+returns-in-Ok-clause-steps g c =
+    widened-within c.args.pinned.now.now.state c.args.pinned.now.pins c.args.name.now c.args.value.now c.args.steps.now
+    c.widen.new.steps (λ some. cc (c.in-Ok.ensures.pinned.1 some)) c.in-Ok.ensures.steps

@@ -21,8 +21,8 @@ pub returns-clause-steps : goal.returns-clause-steps
 returns-clause-steps g c =
     elim c.match-widen.branch [
       | in-Ok w ↦ rw w.result-is
-          (subst (λ (v : Versions). c.widen.new.steps ≤ c.args.steps.now + cost_of_widening
-          (length v.now.state.schema.dims) v.now.tree) c.self.view_is w.in-Ok.ensures.steps)
+          (subst (λ (v : Versions). c.widen.new.steps ≤ c.args.steps.now + cost_of_widening v.now.state)
+          c.self.view_is w.in-Ok.ensures.steps)
       | in-Err w ↦ rw w.result-is tt
     ]
 

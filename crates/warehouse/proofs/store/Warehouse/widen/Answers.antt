@@ -1,10 +1,12 @@
-use Rattle.std.proofs.Common.{length, subst, ◌+◌, ◌∙◌, ◌≤◌}
+use Rattle.std.proofs.Common.{length, subst, ℕ, ◌+◌, ◌∙◌, ◌≤◌}
 use Rattle.std.specs.Prelude.{OnOk}
+use Rattle.std.specs.FinMap as finmap
 use Rattle.cell_core.specs.Gives.{Gives}
 use Rattle.warehouse.specs.Changing.{state_in}
-use Rattle.warehouse.specs.State.{Contents}
+use Rattle.warehouse.specs.State.{AreContents, Contents}
 use Rattle.warehouse.specs.Stored.{applied_in}
-use Rattle.warehouse.specs.Widening.{KeepsWidened, cost_of_widening, widen_refusal_in, widen_result}
+use Rattle.warehouse.specs.Widening.{KeepsWidened, size_of, steps_of_widening, widen_refusal_in, widen_result}
+use Rattle.warehouse.proofs.Sizes.{tree-sized}
 use Rattle.warehouse.proofs.Trees.{is-held}
 use Rattle.warehouse.proofs.store.Warehouse.widen.Goals as goal
 
@@ -23,9 +25,16 @@ returns-clause-records g c =
 
 pub returns-clause-steps : goal.returns-clause-steps
 returns-clause-steps g c =
+    let held = c.args.self.now in
+    let is = subst AreContents c.drop_images.ensures.rest c.drop_images.ensures.valid in
+    let within : OnOk c.widen.result
+    (c.widen.new.steps ≤ c.args.steps.now + steps_of_widening (length held.state.schema.dims) (size_of held.tree)) =
     subst (λ (w : Contents). OnOk c.widen.result
-    (c.widen.new.steps ≤ c.args.steps.now + cost_of_widening (length w.state.schema.dims) w.tree)) (c.self.view_is
-    ∙ c.drop_images.ensures.rest) c.widen.ensures.steps
+    (c.widen.new.steps ≤ c.args.steps.now + steps_of_widening (length w.state.schema.dims) (size_of w.tree)))
+    (c.self.view_is ∙ c.drop_images.ensures.rest) c.widen.ensures.steps in
+    subst (λ (size : ℕ). OnOk c.widen.result
+    (c.widen.new.steps ≤ c.args.steps.now + steps_of_widening (length held.state.schema.dims) size))
+    (tree-sized (record held { images = finmap.empty }) is) within
 
 pub returns-clause-valid : goal.returns-clause-valid
 returns-clause-valid g c =
