@@ -45,16 +45,16 @@ module _ (f : Cell ℕ) (s : Put) (es : List Act) where
   abbrev before : Cell ℕ → ℕ
   before c = length (puts_of c es)
 
+  longer : (b : Bool) (ps : List Put) → length ps ≤ length (cond b (s ∷ ps) ps)
+  longer true ps = omega arith
+  longer false ps = omega arith
+
   no_fewer : (cs : List (Cell ℕ)) → sum_by before cs ≤ sum_by more cs
   no_fewer [] = omega arith
   no_fewer (c ∷ cs) =
       let rest = no_fewer cs in
       let here = longer (cell_eq nat_eq f c) (puts_of c es) in
       omega (arith, rest, here, sum_by-cons before c cs, sum_by-cons more c cs)
-    where
-      longer : (b : Bool) (ps : List Put) → length ps ≤ length (cond b (s ∷ ps) ps)
-      longer true ps = omega arith
-      longer false ps = omega arith
 
   one_more : (cs : List (Cell ℕ)) → Among f cs → suc (sum_by before cs) ≤ sum_by more cs
   one_more [] m = absurd m
@@ -67,10 +67,6 @@ module _ (f : Cell ℕ) (s : Put) (es : List Act) where
       let rest = one_more cs m in
       let here = longer (cell_eq nat_eq f c) (puts_of c es) in
       omega (arith, rest, here, sum_by-cons before c cs, sum_by-cons more c cs)
-    where
-      longer : (b : Bool) (ps : List Put) → length ps ≤ length (cond b (s ∷ ps) ps)
-      longer true ps = omega arith
-      longer false ps = omega arith
 
 -- all labels are at these cells
 abbrev AreAt : List (Cell ℕ) → List Act → Type 0
