@@ -1,5 +1,5 @@
 // Marks of classes.
-ghost use Rattle.std.specs.Prelude.{List, Some, [], ℕ, ◌∷◌, ◌≡◌};
+ghost use Rattle.std.specs.Prelude.{List, Some, [], ℕ, ◌+◌, ◌∷◌, ◌≡◌};
 ghost use Rattle.aggregates.specs.Views.{agg_in};
 ghost use Rattle.cube_defs.specs.Cell.{Cell};
 ghost use Rattle.cube_defs.specs.Rows.{Row};
@@ -20,6 +20,7 @@ pub fn mark_class<L: Ledger>(arena: &mut QcArena, node: NodeNo, agg: Agg, steps:
         → cell_at arena.old.now node.0 ≡ Some w
         → PerformsActs measures rows (Mark w (agg_in agg) ∷ []) arena.old arena.new }
     ensures frame { frame arena.new ≡ frame arena.old }
+    ensures steps { steps.new ≡ steps.old + 1 }
 {
     arena.set_class(node, Some(agg), steps);
 }

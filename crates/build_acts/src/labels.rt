@@ -1,7 +1,7 @@
 // Edges to existing nodes.
 ghost use Rattle.std.specs.FinMap as map;
 ghost use Rattle.cell_core.specs.Entry.{IsCode};
-ghost use Rattle.std.specs.Prelude.{IsSome, List, OnOk, Some, [], false, ℕ, ◌<◌, ◌∷◌, ◌≡◌};
+ghost use Rattle.std.specs.Prelude.{IsSome, List, OnOk, Some, [], false, if◌then◌else◌, ℕ, ◌+◌, ◌<◌, ◌∷◌, ◌≡◌, ◌≤◌};
 ghost use Rattle.cube_defs.specs.Cell.{Cell};
 ghost use Rattle.cube_defs.specs.Rows.{Row};
 ghost use Rattle.cube_defs.specs.Tree.{cell_at};
@@ -32,6 +32,7 @@ pub fn set_link<L: Ledger>(
         cell_at arena.old.now target.0 ≡ Some t
         → PerformsActs measures rows (Label false f dim code t ∷ []) arena.old arena.new) }
     ensures frame { frame arena.new ≡ frame arena.old }
+    ensures steps { steps.new ≤ steps.old + 1 }
 {
     put_label(arena, node, (dim, code, target), false, steps)
 }
@@ -54,6 +55,7 @@ pub(crate) fn put_label<L: Ledger>(
         → PerformsActs measures rows (Label is_forced f label.0 label.1 t ∷ [])
         arena.old arena.new) }
     ensures frame { frame arena.new ≡ frame arena.old }
+    ensures steps { steps.new ≤ steps.old + (if is_forced then 2 else 1) }
 {
     match arena.set_edge(node, label.0, label.1, label.2, steps) {
         Ok(()) => {}

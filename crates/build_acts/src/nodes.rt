@@ -1,7 +1,7 @@
 // New nodes.
 ghost use Rattle.cell_core.specs.Entry.{IsCode};
 ghost use Rattle.std.specs.Ordering.{nat_cmp};
-ghost use Rattle.std.specs.Prelude.{Err, IfOk, List, None, OnOk, Some, [], length, replicate, true, ℕ, ◌<◌, ◌∷◌, ◌≡◌, ◌≢◌, ◌≤◌};
+ghost use Rattle.std.specs.Prelude.{Err, IfOk, List, None, OnOk, Some, [], length, replicate, true, ℕ, ◌+◌, ◌<◌, ◌∷◌, ◌≡◌, ◌≢◌, ◌≤◌};
 ghost use Rattle.cube_defs.specs.Cell.{Cell, depth, with_value};
 ghost use Rattle.cube_defs.specs.Rows.{Row};
 ghost use Rattle.cube_defs.specs.Tree.{cell_at, nodes};
@@ -31,6 +31,7 @@ pub fn add_root<L: Ledger>(
         ActsComeNext measures rows (Add (replicate arena.old.width None) ∷ []) arena.old
         → arena.old.max < length (nodes nat_cmp rows) }
     ensures frame { frame arena.new ≡ frame arena.old }
+    ensures steps { steps.new ≡ steps.old + 1 }
 {
     arena.add_node(None, steps)
 }
@@ -64,6 +65,7 @@ pub fn add_child<L: Ledger>(
         ∷ []) arena.old
         → arena.old.max < length (nodes nat_cmp rows) }
     ensures frame { frame arena.new ≡ frame arena.old }
+    ensures steps { steps.new ≤ steps.old + 3 }
 {
     let child = match arena.add_node(Some((parent, dim, code)), steps) {
         Ok(child) => child,

@@ -1,7 +1,7 @@
 -- Acts one after another on an arena, and paths in it.
 use Rattle.std.proofs.Common.{◌≡◌, ◌≢◌, ℕ, zero, suc, ◌+◌, ◌≤◌, Some, List, [], ◌++◌, append-nil, append_assoc, sym, ap, subst, ◌∙◌, arith}
 use Rattle.std.proofs.Common.{inl, inr, ◌⊎◌}
-use Rattle.std.specs.Prelude.{Result, Err}
+use Rattle.std.specs.Prelude.{Result, Ok, Err, OnOk}
 use Rattle.cube_defs.specs.Cell.{Cell, cell_prefix, depth}
 use Rattle.cube_defs.specs.Rows.{Row}
 use Rattle.cube_defs.specs.Tree.{Tree, cell_at}
@@ -95,3 +95,12 @@ path_of a path c d k e on = record { each = λ j l. on.each j l ∙ ap (λ b. So
 pub err_again : {A B E : Type 0} (x y : E) → (let r : Result A E = Err x in r) ≡ Err y
     → (let r : Result B E = Err x in r) ≡ Err y
 err_again x y h = let e : x ≡ y = cc in cc
+
+-- what holds anyway holds of an Ok, and so does what follows from two clauses on it
+pub ok_always : {A E P : Type 0} (r : Result A E) → P → OnOk r P
+ok_always (Ok a) p = p
+ok_always (Err e) p = tt
+
+pub ok_both : {A E P Q S : Type 0} (r : Result A E) → (P → Q → S) → OnOk r P → OnOk r Q → OnOk r S
+ok_both (Ok a) f p q = f p q
+ok_both (Err e) f p q = tt

@@ -7,3 +7,4 @@ mod Whole
 mod Ways
 mod Notes
 mod Standing
+mod Costs

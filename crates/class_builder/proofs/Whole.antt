@@ -87,7 +87,7 @@ root_path a path c n l h = record {
 -- all is done
 module _ (measures : ℕ) (rows : List (Row ℕ)) (es : List Act) (a b : Arena) (going : IsBuilding measures rows [] es a)
     (does : PerformsActs measures rows es a b) where
-  all_done : IsBuilding measures rows es [] b
+  pub all_done : IsBuilding measures rows es [] b
   all_done = does.acts [] [] (subst (λ xs. IsBuilding measures rows [] xs a) (sym (append-nil es)) going)
 
   done_is : trace measures b.width rows ≡ es

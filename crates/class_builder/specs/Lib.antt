@@ -1,3 +1,4 @@
 pub mod Walk
 pub mod PrefixNodes
+pub mod Costs
 pub mod Stands

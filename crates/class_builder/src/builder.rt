@@ -19,7 +19,8 @@ pub(crate) struct Builder<'a, L: Ledger> {
 /// Gives back what was borrowed, unchanged.
 impl<L: Ledger> Drop for Builder<'_, L> {
     fn drop(self)
-        ensures { self.exit.0.now ≡ self.entry.arena.now }
+        ensures arena { self.exit.0.now ≡ self.entry.arena.now }
+        ensures steps { self.exit.1.1.1.0.now ≡ self.entry.steps.now }
     {
         let Builder {
             arena: _arena,

@@ -1,7 +1,7 @@
 // Edges of nodes of prefixes, to nodes that are added or exist already.
 ghost use Rattle.cell_core.specs.Entry.{IsCode};
 ghost use Rattle.std.specs.Ordering.{nat_cmp};
-ghost use Rattle.std.specs.Prelude.{Err, IfSome, None, OnOk, Some, [], false, length, slice_index_or, suc, true, ◌+◌, ◌<◌, ◌∷◌, ◌≡◌};
+ghost use Rattle.std.specs.Prelude.{Err, IfSome, None, OnOk, Some, [], false, length, slice_index_or, suc, true, ◌+◌, ◌<◌, ◌∷◌, ◌≡◌, ◌≤◌};
 ghost use Rattle.cube_defs.specs.Cell.{cell_prefix};
 ghost use Rattle.cube_defs.specs.Tree.{cell_at, nodes};
 ghost use Rattle.base_table.specs.Places.{named, rows_of};
@@ -49,6 +49,8 @@ pub(crate) fn add_prefix_node<L: Ledger>(
         → builder.old.arena.now.max < length (nodes nat_cmp (rows_of part.now.table.now)) }
     ensures frame { frame builder.new.arena.now ≡ frame builder.old.arena.now }
     ensures same { builder.new.arena.ghost_name ≡ builder.old.arena.ghost_name }
+    ensures same_steps { builder.new.steps.ghost_name ≡ builder.old.steps.ghost_name }
+    ensures steps { builder.new.steps.now ≤ builder.old.steps.now + 3 }
 {
     match add_child(
         builder.arena,
@@ -110,6 +112,8 @@ fn shared_prefix_node<L: Ledger>(
     ensures arena { builder.new.arena.now ≡ builder.old.arena.now }
     ensures fronts { builder.new.fronts.now ≡ builder.old.fronts.now }
     ensures same { builder.new.arena.ghost_name ≡ builder.old.arena.ghost_name }
+    ensures same_steps { builder.new.steps.ghost_name ≡ builder.old.steps.ghost_name }
+    ensures steps { builder.new.steps.now ≤ builder.old.steps.now + (dim + 1) }
 {
     if let Some(node) = prefix_node_of_row(builder.fronts, group, dim) {
         return node;
@@ -147,6 +151,8 @@ pub(crate) fn link_part<L: Ledger>(
         builder.old.arena.now builder.new.arena.now builder.new.fronts.now) }
     ensures frame { frame builder.new.arena.now ≡ frame builder.old.arena.now }
     ensures same { builder.new.arena.ghost_name ≡ builder.old.arena.ghost_name }
+    ensures same_steps { builder.new.steps.ghost_name ≡ builder.old.steps.ghost_name }
+    ensures steps { builder.new.steps.now ≤ builder.old.steps.now + (dim + 2) }
 {
     let to = shared_prefix_node(builder, group, at, dim, path);
     set_link(

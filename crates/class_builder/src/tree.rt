@@ -1,11 +1,12 @@
 // The tree of a table's rows.
 ghost use Rattle.std.specs.FinMap as map;
 ghost use Rattle.std.specs.Ordering.{nat_cmp};
-ghost use Rattle.std.specs.Prelude.{Err, OnOk, length, true, ◌<◌, ◌≡◌, ◌≤◌};
+ghost use Rattle.std.specs.Prelude.{Err, OnOk, length, true, ◌+◌, ◌<◌, ◌≡◌, ◌≤◌};
 ghost use Rattle.cube_defs.specs.Tree.{IsCanonical, nodes};
 ghost use Rattle.base_table.specs.Places.{named, rows_of};
 ghost use Rattle.qc_arena.specs.Map.{frame, is_open};
 ghost use Rattle.class_builder.specs.Walk.{IsPart};
+ghost use Rattle.class_builder.specs.Costs.{cost_of_building};
 ghost use Rattle.class_builder.specs.PrefixNodes.{ArePrefixNodes};
 
 use crate::builder::Builder;
@@ -42,6 +43,8 @@ pub fn build_classes<L: Ledger>(
     ensures full { result ≡ Err ArenaRefused.Full
         → arena.old.max < length (nodes nat_cmp (rows_of table.now)) }
     ensures frame { frame arena.new ≡ frame arena.old }
+    ensures steps { OnOk result
+        (steps.new ≤ steps.old + cost_of_building table.now.dims arena.new.now) }
 {
     if table.count() == 0 {
         return Ok(());
@@ -74,6 +77,8 @@ fn build_sorted<L: Ledger>(
     ensures full { result ≡ Err ArenaRefused.Full
         → arena.old.max < length (nodes nat_cmp (rows_of table.now)) }
     ensures frame { frame arena.new ≡ frame arena.old }
+    ensures steps { OnOk result
+        (steps.new ≤ steps.old + cost_of_building table.now.dims arena.new.now) }
 {
     table.recall_invariant();
     let Ok(rows) = table.all(alloc) else {
@@ -118,6 +123,9 @@ fn build_all<L: Ledger>(
         → builder.old.arena.now.max < length (nodes nat_cmp (rows_of part.now.table.now)) }
     ensures frame { frame builder.new.arena.now ≡ frame builder.old.arena.now }
     ensures same { builder.new.arena.ghost_name ≡ builder.old.arena.ghost_name }
+    ensures same_steps { builder.new.steps.ghost_name ≡ builder.old.steps.ghost_name }
+    ensures steps { OnOk result (builder.new.steps.now ≤ builder.old.steps.now
+        + cost_of_building part.now.table.now.dims builder.new.arena.now.now) }
 {
     match add_root(builder.arena, builder.steps) {
         Ok(root) => {

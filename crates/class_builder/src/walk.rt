@@ -9,6 +9,7 @@ ghost use Rattle.build_trace.specs.Trace.{acts_at, part_acts};
 ghost use Rattle.qc_arena.specs.Map.{frame};
 ghost use Rattle.class_builder.specs.Walk.{IsGroup, IsOnPath, IsPart, acts_from};
 ghost use Rattle.class_builder.specs.Stands.{HasDone, StandsAt};
+ghost use Rattle.class_builder.specs.Costs.{cost_of_acts};
 
 use crate::Memory;
 use crate::builder::Builder;
@@ -44,6 +45,10 @@ pub(crate) fn drill<L: Ledger>(
         → builder.old.arena.now.max < length (nodes nat_cmp (rows_of part.now.table.now)) }
     ensures frame { frame builder.new.arena.now ≡ frame builder.old.arena.now }
     ensures same { builder.new.arena.ghost_name ≡ builder.old.arena.ghost_name }
+    ensures same_steps { builder.new.steps.ghost_name ≡ builder.old.steps.ghost_name }
+    ensures steps { OnOk result (builder.new.steps.now ≤ builder.old.steps.now
+        + cost_of_acts part.now.table.now.dims
+        (acts_from part.now.table.now first (named part.now.table.now part.now.rows.now)) + 1) }
 {
     // Reads all amounts in their order now. The groups of these rows later read them in another
     // order.
@@ -88,6 +93,11 @@ fn drill_at<L: Ledger>(
         → builder.old.arena.now.max < length (nodes nat_cmp (rows_of part.now.table.now)) }
     ensures frame { frame builder.new.arena.now ≡ frame builder.old.arena.now }
     ensures same { builder.new.arena.ghost_name ≡ builder.old.arena.ghost_name }
+    ensures same_steps { builder.new.steps.ghost_name ≡ builder.old.steps.ghost_name }
+    ensures steps { OnOk result (builder.new.steps.now ≤ builder.old.steps.now
+        + cost_of_acts part.now.table.now.dims
+        (acts_at (acts_from part.now.table.now (dim + 1)) dim part.now.shared
+        (slice_index_or part.now.shared dim None) (named part.now.table.now part.now.rows.now))) }
 {
     match part.shared.get(dim) {
         Entry::Is(code) => {
@@ -121,6 +131,8 @@ fn groups_of<L: Ledger>(
     ensures arena { builder.new.arena.now ≡ builder.old.arena.now }
     ensures fronts { builder.new.fronts.now ≡ builder.old.fronts.now }
     ensures same { builder.new.arena.ghost_name ≡ builder.old.arena.ghost_name }
+    ensures same_steps { builder.new.steps.ghost_name ≡ builder.old.steps.ghost_name }
+    ensures steps { builder.new.steps.now ≡ builder.old.steps.now }
 {
     let parts = builder.room.part(part.table, part.rows, dim)?;
     match builder.arena.reserve_edges(node, parts.len()) {
@@ -152,6 +164,11 @@ fn drill_in<L: Ledger>(
         → builder.old.arena.now.max < length (nodes nat_cmp (rows_of part.now.table.now)) }
     ensures frame { frame builder.new.arena.now ≡ frame builder.old.arena.now }
     ensures same { builder.new.arena.ghost_name ≡ builder.old.arena.ghost_name }
+    ensures same_steps { builder.new.steps.ghost_name ≡ builder.old.steps.ghost_name }
+    ensures steps { OnOk result (builder.new.steps.now ≤ builder.old.steps.now
+        + cost_of_acts part.now.table.now.dims
+        (acts_at (acts_from part.now.table.now (dim + 1)) dim part.now.shared None
+        (named part.now.table.now part.now.rows.now))) }
 {
     let Ok(parts) = groups_of(builder, part, dim, path.at(dim)) else {
         return Err(ArenaRefused::Memory);
@@ -197,6 +214,11 @@ fn drill_part<L: Ledger>(
         → builder.old.arena.now.max < length (nodes nat_cmp (rows_of group.now.table.now)) }
     ensures frame { frame builder.new.arena.now ≡ frame builder.old.arena.now }
     ensures same { builder.new.arena.ghost_name ≡ builder.old.arena.ghost_name }
+    ensures same_steps { builder.new.steps.ghost_name ≡ builder.old.steps.ghost_name }
+    ensures steps { OnOk result (builder.new.steps.now ≤ builder.old.steps.now
+        + cost_of_acts group.now.table.now.dims
+        (part_acts (acts_from group.now.table.now (dim + 1)) dim group.now.upper.now group.now.code
+        (named group.now.table.now group.now.rows.now))) }
 {
     match first_new_value(group.table, group.rows, group.upper, dim) {
         Some(at) => match link_part(builder, group, at, dim, path) {

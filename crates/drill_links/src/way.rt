@@ -1,5 +1,5 @@
 // The way down to an existing node.
-ghost use Rattle.std.specs.Prelude.{Some, length, suc, ◌<◌, ◌≡◌, ◌≤◌};
+ghost use Rattle.std.specs.Prelude.{Some, length, suc, ◌+◌, ◌-◌, ◌<◌, ◌≡◌, ◌≤◌};
 ghost use Rattle.cube_defs.specs.Cell.{cell_prefix};
 ghost use Rattle.cube_defs.specs.Tree.{cell_at};
 ghost use Rattle.drill_links.specs.Way.{IsWay};
@@ -22,7 +22,8 @@ pub fn descend<L: Ledger>(
     requires last { last < length target.now }
     requires from { cell_at arena.now.now from.0 ≡ Some (cell_prefix first target.now) }
     requires way { IsWay arena.now.now target.now first last }
-    ensures { cell_at arena.now.now result.0 ≡ Some (cell_prefix (suc last) target.now) }
+    ensures node { cell_at arena.now.now result.0 ≡ Some (cell_prefix (suc last) target.now) }
+    ensures steps { steps.new ≤ steps.old + (last + 1 - first) }
 {
     let mut node = from;
     'down: for dim in first..=last {

@@ -1,4 +1,4 @@
-use Rattle.std.proofs.Common.{◌≡◌, ◌≤◌, ◌∙◌, [], ◌∷◌, None, ap, sym, arith, length, replicate, nat_cmp}
+use Rattle.std.proofs.Common.{◌≡◌, ◌≤◌, ◌∙◌, [], ◌∷◌, None, ap, refl, sym, arith, length, replicate, nat_cmp}
 use Rattle.std.proofs.lemmas.Result.{on_ok_weaker}
 use Rattle.std.specs.FinMap as map
 use Rattle.cube_defs.specs.Tree.{cell_at, nodes}
@@ -7,11 +7,12 @@ use Rattle.cell_closure.proofs.CallerLemmas.{there}
 use Rattle.build_trace.specs.Trace.{Act.{Add}}
 use Rattle.qc_arena.specs.Map.{Arena}
 use Rattle.class_builder.specs.Walk.{acts_from}
-use Rattle.class_builder.proofs.Building.{does_then, err_again, next_behind, next_prefix}
+use Rattle.class_builder.proofs.Building.{does_then, err_again, ok_both, next_behind, next_prefix}
+use Rattle.class_builder.proofs.Costs.{cost_done}
 use Rattle.class_builder.proofs.Notes.{noted_stay}
 use Rattle.class_builder.proofs.Standing.{part_long}
 use Rattle.class_builder.specs.Stands.{HasDone}
-use Rattle.class_builder.proofs.Whole.{first_next, no_cell, nodes_counted, root_going, root_path, tree_built}
+use Rattle.class_builder.proofs.Whole.{all_done, first_next, no_cell, nodes_counted, root_going, root_path, tree_built}
 use Rattle.class_builder.proofs.tree.build_all.Goals as goal
 
 pub add_root-requires-clause-none : goal.add_root-requires-clause-none
@@ -93,3 +94,23 @@ returns-in-Err-clause-full g c = λ e.
     (acts_from c.args.part.now.table.now 0 rows) c.args.builder.now.arena.now
     (first_next c.args.part.now.table.now.measures (rows_of c.args.part.now.table.now) _
     c.args.builder.now.arena.now going))
+
+pub returns-in-Ok-clause-steps : goal.returns-in-Ok-clause-steps
+returns-in-Ok-clause-steps g c =
+    let table = c.args.part.now.table.now in
+    let rows = named table c.args.part.now.rows.now in
+    let a = c.args.builder.now.arena.now in
+    let b = c.drill-built.new.builder.arena.now in
+    let going = root_going table c.args.part.now.rows.now a
+    (there table c.args.part.now.rows.now c.requires.part.there) c.requires.all
+    c.requires.part.table c.requires.part.some c.requires.width c.requires.opened c.requires.empty in
+    let root = Add (replicate a.width None) ∷ [] in
+    ok_both c.drill-built.result
+    (λ (d : HasDone table (acts_from table 0 rows) c.add_root.new.arena b c.drill-built.new.builder.fronts.now) within.
+    let done = all_done table.measures (rows_of table) _ a b going
+    (does_then root (acts_from table 0 rows) a c.add_root.new.arena b
+    (c.in-Ok.ensures.made table.measures (rows_of table)) d.does) in
+    cost_done table.measures (rows_of table) _ b done table.dims c.args.builder.now.steps.now
+    c.drill-built.new.builder.steps.now (replicate a.width None) (acts_from table 0 rows) refl
+    (omega (arith, within, c.add_root.ensures.steps)))
+    c.drill-built.ensures.done c.drill-built.ensures.steps

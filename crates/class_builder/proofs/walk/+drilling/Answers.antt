@@ -15,11 +15,13 @@ use Rattle.build_acts.specs.Building.{PerformsActs}
 use Rattle.cell_core.specs.Entry.{IsCode}
 use Rattle.qc_arena.specs.Map.{Arena, frame}
 use Rattle.class_builder.specs.declared.prefix_nodes.PrefixNodes.{PrefixNodes}
+use Rattle.class_builder.specs.Costs.{cost_of_acts}
 use Rattle.class_builder.specs.Stands.{HasDone, StandsAt}
 use Rattle.class_builder.specs.Walk.{IsGroup, IsPart, acts_from, prefix_acts, node_on}
 use Rattle.build_trace.proofs.CallerLemmas.{cell_prefix_all, cell_prefix_still}
 use Rattle.class_builder.proofs.Uppers.{AreCovered, differs_after}
-use Rattle.class_builder.proofs.Building.{path_stays, on_end, on_path, path_on, path_of}
+use Rattle.class_builder.proofs.Costs.{cost_append}
+use Rattle.class_builder.proofs.Building.{ok_always, path_stays, on_end, on_path, path_on, path_of}
 use Rattle.class_builder.proofs.Notes.{noted_stay}
 use Rattle.class_builder.proofs.Standing.{done_nothing, done_then, on_change, part_long, stands_behind, stands_prefix}
 use Rattle.class_builder.proofs.Steps.{acts_here, acts_end, part_new, part_old, parts_from, part_there, part_some, part_few, part_covered}
@@ -54,7 +56,14 @@ drill-drill_at-requires g t c =
     )
 
 pub drill-dims-init : goal.drill-dims-init
-drill-dims-init g t c = record { whole = λ b f d. d; stands = c.requires.stands; rest = refl; same = refl }
+drill-dims-init g t c = record {
+  whole = λ b f d. d;
+  stands = c.requires.stands;
+  rest = refl;
+  same = refl;
+  same_steps = refl;
+  steps = omega arith;
+}
 
 pub drill-dims-preserved : goal.drill-dims-preserved
 drill-dims-preserved g t c =
@@ -78,6 +87,9 @@ drill-dims-preserved g t c =
           here c.dims.invariant.stands) c.in-Ok.ensures.done c.in-Ok.ensures.frame c.in-Ok.ensures.path;
       rest = c.in-Ok.ensures.frame ∙ c.dims.invariant.rest;
       same = c.in-Ok.ensures.same ∙ c.dims.invariant.same;
+      same_steps = c.in-Ok.ensures.same_steps ∙ c.dims.invariant.same_steps;
+      steps = let split = ap (cost_of_acts table.dims) here ∙ cost_append table.dims es fs in
+          omega (arith, c.dims.invariant.steps, c.in-Ok.ensures.steps, split);
     }
 
 pub drill-mark_class-requires : goal.drill-mark_class-requires
@@ -269,6 +281,9 @@ drill_in-parts-preserved g t c =
           c.parts.invariant.stands.path);
       rest = c.in-Ok-drill_part.ensures.frame ∙ c.parts.invariant.rest;
       same = c.in-Ok-drill_part.ensures.same ∙ c.parts.invariant.same;
+      same_steps = c.in-Ok-drill_part.ensures.same_steps ∙ c.parts.invariant.same_steps;
+      steps = let cost = ap (cost_of_acts table.dims) split ∙ cost_append table.dims es fs in
+          omega (arith, c.parts.invariant.steps, c.in-Ok-drill_part.ensures.steps, cost);
     }
 
 pub drill_in-returns-in-Ok-give_back-clause-done : goal.drill_in-returns-in-Ok-give_back-clause-done
@@ -379,6 +394,8 @@ drill_in-parts-init g t c = record {
       (sym c.groups_of.ensures.fronts) c.requires.stands);
   rest = ap frame c.groups_of.ensures.arena;
   same = c.groups_of.ensures.same;
+  same_steps = c.groups_of.ensures.same_steps;
+  steps = omega (arith, c.groups_of.ensures.steps);
 }
 
 pub drill_part-first_new_value-requires : goal.drill_part-first_new_value-requires
@@ -433,3 +450,50 @@ drill-total-agg-requires g t c = record {
       = c.requires.part.few;
   there = c.requires.part.there;
 }
+
+pub drill-returns-clause-steps : goal.drill-returns-clause-steps
+drill-returns-clause-steps g t c =
+    let table = c.args.part.now.table.now in
+    let rows = named table c.args.part.now.rows.now in
+    let le : table.dims ≤ c.dims.dim = subst (λ n. n ≤ c.dims.dim) c.dims-dim-end.ensures.value c.dims-test.false in
+    let none = ap (cost_of_acts table.dims) (acts_end table c.dims.dim rows le) in
+    omega (arith, c.dims.invariant.steps, c.mark_class.ensures.steps, none)
+
+pub drill_at-returns-in-Is-clause-steps : goal.drill_at-returns-in-Is-clause-steps
+drill_at-returns-in-Is-clause-steps g t c =
+    let table = c.args.part.now.table.now in
+    let cost = ap (λ o. cost_of_acts table.dims (acts_at (acts_from table (c.args.dim + 1)) c.args.dim
+    c.args.part.now.shared o (named table c.args.part.now.rows.now))) c.in-Is.ensures.value in
+    ok_always c.add_prefix_node.result (omega (arith, c.add_prefix_node.ensures.steps, cost, c.requires.dim))
+
+pub drill_at-returns-in-Ok-clause-steps : goal.drill_at-returns-in-Ok-clause-steps
+drill_at-returns-in-Ok-clause-steps g t c =
+    let table = c.args.part.now.table.now in
+    let cost = ap (λ o. cost_of_acts table.dims (acts_at (acts_from table (c.args.dim + 1)) c.args.dim
+    c.args.part.now.shared o (named table c.args.part.now.rows.now))) c.in-Any.ensures.value in
+    omega (arith, c.in-Ok.ensures.steps, cost)
+
+pub drill_in-returns-in-Ok-give_back-clause-steps : goal.drill_in-returns-in-Ok-give_back-clause-steps
+drill_in-returns-in-Ok-give_back-clause-steps g t c = omega (arith, c.parts.invariant.steps)
+
+pub drill_part-returns-in-Ok-add_prefix_node-clause-steps : goal.drill_part-returns-in-Ok-add_prefix_node-clause-steps
+drill_part-returns-in-Ok-add_prefix_node-clause-steps g t c =
+    let table = c.args.group.now.table.now in
+    let part = named table c.args.group.now.rows.now in
+    let more = acts_from table (c.args.dim + 1) in
+    let first = prefix_acts false (shared_by part) c.args.dim c.args.group.now.code in
+    let cost = ap (cost_of_acts table.dims) (part_new more c.args.dim c.args.group.now.upper.now
+    c.args.group.now.code part c.in-None.ensures.none) ∙ cost_append table.dims first (more part) in
+    on_ok_weaker c.drill.result
+    (λ within. omega (arith, within, c.in-Ok-add_prefix_node.ensures.steps, cost, c.requires.group.dim))
+    c.drill.ensures.steps
+
+pub drill_part-returns-in-Ok-clause-steps : goal.drill_part-returns-in-Ok-clause-steps
+drill_part-returns-in-Ok-clause-steps g t c =
+    let table = c.args.group.now.table.now in
+    let part = named table c.args.group.now.rows.now in
+    let cost = ap (cost_of_acts table.dims) (part_old (acts_from table (c.args.dim + 1)) c.args.dim
+    c.args.group.now.upper.now c.args.group.now.code part
+    (differs_after c.in-Some.at c.args.dim _ c.args.group.now.upper.now c.in-Some.ensures.before
+    c.in-Some.ensures.gains)) in
+    omega (arith, c.in-Ok.ensures.steps, cost, c.requires.group.dim)

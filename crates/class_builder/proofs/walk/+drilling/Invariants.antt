@@ -1,7 +1,8 @@
-use Rattle.std.proofs.Common.{◌≡◌, ◌+◌, ◌*◌, ◌-◌, None}
+use Rattle.std.proofs.Common.{◌≡◌, ◌≤◌, ◌+◌, ◌*◌, ◌-◌, None}
 use Rattle.base_table.specs.Places.{named}
 use Rattle.build_trace.specs.Trace.{acts_at}
 use Rattle.qc_arena.specs.Map.{Arena, frame}
+use Rattle.class_builder.specs.Costs.{cost_of_acts}
 use Rattle.class_builder.specs.Stands.{HasDone, StandsAt}
 use Rattle.class_builder.specs.Walk.{acts_from}
 use Rattle.class_builder.specs.declared.prefix_nodes.PrefixNodes.{PrefixNodes}
@@ -33,6 +34,11 @@ invariant-drill-dims g l = record {
       l.builder.fronts.now;
   rest : frame l.builder.arena.now ≡ frame l.fn.builder.arena.now;
   same : l.builder.arena.ghost_name ≡ l.fn.builder.arena.ghost_name;
+  same_steps : l.builder.steps.ghost_name ≡ l.fn.builder.steps.ghost_name;
+  steps : l.builder.steps.now + cost_of_acts l.part.table.now.dims
+      (acts_from l.part.table.now l.dim (named l.part.table.now l.part.rows.now))
+      ≤ l.fn.builder.steps.now + cost_of_acts l.part.table.now.dims
+      (acts_from l.part.table.now l.first (named l.part.table.now l.part.rows.now));
 }
 
 abbrev pub invariant-drill_in-parts : goal.invariant-drill_in-parts
@@ -48,4 +54,10 @@ invariant-drill_in-parts g l = record {
       l.path l.builder.fronts.now;
   rest : frame l.builder.arena.now ≡ frame l.fn.builder.arena.now;
   same : l.builder.arena.ghost_name ≡ l.fn.builder.arena.ghost_name;
+  same_steps : l.builder.steps.ghost_name ≡ l.fn.builder.steps.ghost_name;
+  steps : l.builder.steps.now + cost_of_acts l.part.table.now.dims
+      (parts_from l.part.table.now l.dim l.part.shared (named l.part.table.now l.part.rows.now) l.k)
+      ≤ l.fn.builder.steps.now + cost_of_acts l.part.table.now.dims
+      (acts_at (acts_from l.part.table.now (l.dim + 1)) l.dim l.part.shared None
+      (named l.part.table.now l.part.rows.now));
 }
