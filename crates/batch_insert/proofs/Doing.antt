@@ -1,9 +1,9 @@
 -- The parts of a plan one after another.
 use Rattle.batch_insert.specs.Stages.{IsStage}
-use Rattle.std.proofs.Common.{◌≡◌, inl, inr, ℕ, suc, ◌+◌, ◌<◌, Option, Some, None, IsSome, List, [], ◌∷◌, ◌++◌, ℤ, length, take, get_or}
-use Rattle.std.proofs.Common.{zero, replicate, refl, sym, subst, ◌∙◌, arith}
+use Rattle.std.proofs.Common.{◌≡◌, inl, inr, ℕ, ◌+◌, ◌<◌, Option, Some, None, IsSome, List, [], ◌∷◌, ◌++◌, ℤ, length, take, get_or}
+use Rattle.std.proofs.Common.{replicate, refl, sym, subst, ◌∙◌}
 use Rattle.std.proofs.lemmas.List.{take_more}
-use Rattle.cube_defs.specs.Cell.{Cell, depth, mask, depth_with}
+use Rattle.cube_defs.specs.Cell.{Cell, depth, mask}
 use Rattle.cube_defs.specs.Tree.{Tree}
 use Rattle.cube_laws.specs.Lists.{Among}
 use Rattle.cube_laws.proofs.CallerLemmas.{among_append, all_among}
@@ -17,10 +17,11 @@ use Rattle.batch_insert.specs.declared.plan.Plan.{Plan}
 use Rattle.batch_insert.specs.Begun.{IsBegun}
 use Rattle.batch_insert.specs.Cases.{Case, IsPrefix}
 use Rattle.batch_insert.specs.Invariants.{IsClosed, KeepsNodes}
-use Rattle.batch_insert.specs.Planned.{IsPlan}
+use Rattle.batch_insert.specs.Planned.{IsPlan, IsRootOrPlanned}
 use Rattle.batch_insert.specs.Stages.{HasLabel, HaveCopied, HaveEnded, HaveSet, IsCopied, IsDone, LabelsStay}
 use Rattle.batch_insert.specs.Whole.{HasAll, IsCopyOf, IsEndFor, IsTupleLabelOf}
 use Rattle.batch_insert.proofs.Finished.{finished, cell_prefix_none}
+use Rattle.batch_insert.proofs.Masks.{flat_mask}
 use Rattle.batch_insert.proofs.Prefixes.{prefix_long}
 use Rattle.batch_insert.proofs.TupleLabels.{set_stays}
 use Rattle.batch_insert.proofs.Started.{begun_stage}
@@ -29,6 +30,12 @@ use Rattle.tree_laws.proofs.CallerLemmas.{some_there}
 pub numbered_still : (f g : ℕ → Option ℕ) (m : ℕ) → ((q k : ℕ) → f q ≡ Some k → g q ≡ Some k) → IsSome (f m)
     → IsSome (g m)
 numbered_still f g m grows h = let r = some_there (f m) h in subst IsSome (sym (grows m r.0 r.1)) refl
+
+-- the parent of a planned node has a number once the root and the nodes before it have one
+pub known_parent : (f : ℕ → Option ℕ) (xs : List PlannedNode) (m : ℕ) → IsSome (f 0)
+    → ((s : PlannedNode) → Among s xs → IsSome (f s.mask)) → IsRootOrPlanned xs m → IsSome (f m)
+known_parent f xs m top known (inl e) = subst (λ n. IsSome (f n)) (sym e) top
+known_parent f xs m top known (inr s) = subst (λ n. IsSome (f n)) s.2 (known s.0 s.1)
 
 -- one more spot has its number
 pub known_next : (xs : List PlannedNode) (k : ℕ) (x z : PlannedNode) → k < length xs → x ≡ get_or xs k z
@@ -115,21 +122,12 @@ module _ (t : Cell ℕ) (f : ℕ → Option ℕ) (b : Tree ℕ) where
         = subst (λ ys. HaveEnded t amounts f ys b e) (sym (take_more xs k z l))
         (ended_then amounts (take k xs) (get_or xs k z) one two)
 
-flat_mask : (p : Cell ℕ) → depth p ≡ 0 → mask p ≡ 0
-flat_mask [] h = refl
-flat_mask (None ∷ p) h = let e = flat_mask p (shallow (depth p) h) in omega arith
-  where
-    shallow : (n : ℕ) → depth_with {A = ℕ} None n ≡ 0 → n ≡ 0
-    shallow zero h = refl
-    shallow (suc n) h = absurd (omega (arith, h))
-flat_mask (Some v ∷ p) h = absurd (omega (arith, h))
-
 -- the whole plan
 module _ (t : Cell ℕ) (a : Arena) (wide : length t ≡ a.width) (c : Case t a) (plan : Plan) (parts : IsPlan t a plan)
     (has : HasAll c plan (replicate (length t) None) 0) (f : ℕ → Option ℕ) (b : Tree ℕ) where
-  pub numbered : IsSome (f 0) → ((s : PlannedNode) → Among s plan.planned_nodes.items → IsSome (f s.mask))
+  pub every_number : IsSome (f 0) → ((s : PlannedNode) → Among s plan.planned_nodes.items → IsSome (f s.mask))
       → (q : Cell ℕ) → IsPrefix c q (depth q) → IsSome (f (mask q))
-  numbered top planned_nodes q front
+  every_number top planned_nodes q front
       = elim (has q front (cell_prefix_none q (length t) (prefix_long t a wide c q (depth q) front))).spot [
         | inl flat ↦ subst (λ m. IsSome (f m)) (sym (flat_mask q flat)) top
         | inr s ↦ subst (λ m. IsSome (f m)) s.2 (planned_nodes s.0 s.1)
@@ -137,7 +135,7 @@ module _ (t : Cell ℕ) (a : Arena) (wide : length t ≡ a.width) (c : Case t a)
 
   pub stage_is : IsBegun c b f → IsSome (f 0)
       → ((s : PlannedNode) → Among s plan.planned_nodes.items → IsSome (f s.mask)) → IsStage c b f
-  stage_is begun top planned_nodes = begun_stage t a wide c b f begun (numbered top planned_nodes)
+  stage_is begun top planned_nodes = begun_stage t a wide c b f begun (every_number top planned_nodes)
 
   pub all_done : (amounts : List ℤ) (e : Arena) → IsBegun c b f → IsSome (f 0)
       → ((s : PlannedNode) → Among s plan.planned_nodes.items → IsSome (f s.mask)) → c.row.amounts ≡ amounts
@@ -145,7 +143,7 @@ module _ (t : Cell ℕ) (a : Arena) (wide : length t ≡ a.width) (c : Case t a)
       → IsDone t amounts f plan b e.now → KeepsNodes t a e → IsClosed e
       → IsTreeOf a.width e.now (record { measures = c.measures; rows = c.xs ++ c.row ∷ c.ys })
   all_done amounts e begun top planned_nodes same many done keeps shut =
-      let start = begun_stage t a wide c b f begun (numbered top planned_nodes) in
+      let start = begun_stage t a wide c b f begun (every_number top planned_nodes) in
       let tuple_labels : (x : TupleLabel) → Among x plan.tuple_labels.items → IsTupleLabelOf c x
       = λ x m. all_among (λ y. (c : Case t a)
       → IsTupleLabelOf c y) plan.tuple_labels.items parts.owns_right x m c in

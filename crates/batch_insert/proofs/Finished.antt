@@ -30,7 +30,7 @@ use Rattle.batch_insert.specs.Stages.{HasEndOf, HasLabel, IsCopied, IsEnded, IsS
 use Rattle.batch_insert.specs.Whole.{HasAll, HasNode, IsTupleLabelOf}
 use Rattle.batch_insert.proofs.Assembled.{IsBelowRight, assembled}
 use Rattle.batch_insert.proofs.Coming.{prefix_told}
-use Rattle.batch_insert.proofs.Prefixes.{prefix_before, prefix_deep, prefix_leq, prefix_long, le_or_lt, new_below, new_long}
+use Rattle.batch_insert.proofs.Prefixes.{deep_prefix, prefix_deep, prefix_leq, prefix_long, le_or_lt, new_below, new_long}
 use Rattle.batch_insert.proofs.Keeping.{cell_known}
 use Rattle.batch_insert.proofs.Labelled.{led_or_own, led_own, source_has}
 use Rattle.batch_insert.proofs.Naming.{same_mask}
@@ -85,9 +85,6 @@ module _ (t : Cell ℕ) (a : Arena) (wide : length t ≡ a.width) (c : Case t a)
     (copied : (x : LabelCopy) → Among x plan.copies.items → IsCopied c b.now f x) (set : (x : TupleLabel)
     → Among x plan.tuple_labels.items → IsSet t b.now f x) (ended : (x : NodeKind) → Among x plan.ends.items
     → IsEnded c b.now f x) where
-  deep_prefix : (p : Cell ℕ) (i : ℕ) → IsPrefix c p i → IsPrefix c p (depth p)
-  deep_prefix p i e = prefix_before t a wide c p (depth p) i (prefix_deep t a wide c p i e) (omega arith) e
-
   module _ (k : ℕ) (n : Known) (h : map.get b.now k ≡ Some n) (front : IsPrefix c n.cell (depth n.cell))
       (number : f (mask n.cell) ≡ Some k) where
     node : HasNode c plan n.cell
@@ -112,7 +109,7 @@ module _ (t : Cell ℕ) (a : Arena) (wide : length t ≡ a.width) (c : Case t a)
         let val : s.2 ≡ v = some_same (sym s.5 ∙ ap (λ j. slice_index_or t j None) y.3 ∙ value) in
         let same : (record_at b.now s.0).edges ≡ n.edges = edges_at s.0 (one_number y.0.mask s.0 y.2 s.3) in
         let node : is.node ≡ n.cell
-        = prefix_told t a wide c is.node n.cell (deep_prefix is.node y.0.dim is.front) front (is.dims ∙ y.2) in (
+        = prefix_told t a wide c is.node n.cell (deep_prefix t a wide c is.node y.0.dim is.front) front (is.dims ∙ y.2) in (
           s.1,
           subst (λ j. Among (record { dim = j; value = v; target = s.1 }) n.edges) y.3
               (subst (λ w. Among (record { dim = y.0.dim; value = w; target = s.1 }) n.edges) val

@@ -205,3 +205,13 @@ module _ (t : Cell ℕ) (m i v x : ℕ) (d : depth (part t m) ≤ i) (l : i < le
 
   pub child_mask : mask (part t x) ≡ x
   child_mask = ap mask child_is ∙ sym e
+
+-- the root has no values
+pub flat_mask : (p : Cell ℕ) → depth p ≡ 0 → mask p ≡ 0
+flat_mask [] h = refl
+flat_mask (None ∷ p) h = let e = flat_mask p (shallow (depth p) h) in omega arith
+  where
+    shallow : (n : ℕ) → depth_with {A = ℕ} None n ≡ 0 → n ≡ 0
+    shallow zero h = refl
+    shallow (suc n) h = absurd (omega (arith, h))
+flat_mask (Some v ∷ p) h = absurd (omega (arith, h))

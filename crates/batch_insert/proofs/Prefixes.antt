@@ -6,7 +6,7 @@ use Rattle.cube_defs.specs.Cell.{Cell, depth, entry_meet, cell_prefix, leq, meet
 use Rattle.cube_defs.specs.Rows.{meet_after}
 use Rattle.cube_laws.proofs.CallerLemmas.{leq_trans, leq_antisymm, meet_great, cell_prefix-leq, cell_prefix_mono, length-cell_prefix}
 use Rattle.cube_laws.proofs.CallerLemmas.{length-meet, depth-le, meet_after_below, meet_after_rest, leq-closure, closure_mono, closure_some}
-use Rattle.cube_laws.proofs.CallerLemmas.{closure_length, value_above, item_at, none_some, code_equality}
+use Rattle.cube_laws.proofs.CallerLemmas.{closure_idem, closure_length, value_above, item_at, none_some, code_equality}
 use Rattle.tree_laws.specs.Labels.{target_after_row}
 use Rattle.tree_laws.proofs.CallerLemmas.{some_same, not_any, any_after, depth-cell_prefix-le, get-cell_prefix, cell_prefix-beyond}
 use Rattle.tree_laws.proofs.CallerLemmas.{cell_prefix-cell_prefix, upto-entry, upto-none, upto-meet_after}
@@ -81,6 +81,48 @@ module _ (t : Cell ℕ) (a : Arena) (wide : length t ≡ a.width) (c : Case t a)
           meet_great code_equality (new_closure c p) t w (new_below p)
           (leq_trans code_equality (new_closure c p) u.0 w (meet_after_rest code_equality t (old_closure c p) u.0 u.1)
           (closure_mono code_equality (c.xs ++ c.ys) p q u.0 w h u.1 e))
+
+  pub deep_prefix : (p : Cell ℕ) (i : ℕ) → IsPrefix c p i → IsPrefix c p (depth p)
+  deep_prefix p i f = prefix_before p (depth p) i (prefix_deep p i f) (omega arith) f
+
+  -- the closure of a closure
+  closure_again : (p : Cell ℕ) → leq (eq_by_cmp nat_cmp) (new_closure c (new_closure c p)) (new_closure c p) ≡ true
+  closure_again p = go (old_closure c p) refl
+    where
+      go : (o : Option (Cell ℕ)) → old_closure c p ≡ o
+          → leq (eq_by_cmp nat_cmp) (new_closure c (new_closure c p)) (new_closure c p) ≡ true
+      go None e = subst (λ x. leq (eq_by_cmp nat_cmp) (new_closure c (new_closure c p)) x ≡ true)
+          (sym (ap (meet_after (eq_by_cmp nat_cmp) t) e)) (new_below (new_closure c p))
+      go (Some u) e = subst (λ x. leq (eq_by_cmp nat_cmp) (new_closure c (new_closure c p)) x ≡ true)
+          (ap (meet_after (eq_by_cmp nat_cmp) t) (closure_idem code_equality (c.xs ++ c.ys) p u e ∙ sym e))
+          (closure_rises (new_closure c p) u (meet_after_rest code_equality t (old_closure c p) u e))
+
+  -- a prefix of a closure is a node
+  pub closure_prefix : (p : Cell ℕ) (i : ℕ) → IsPrefix c (cell_prefix i (new_closure c p)) i
+  closure_prefix p i =
+      let n = new_closure c p in
+      let q = cell_prefix i n in
+      let less = cell_prefix-leq code_equality i n in
+      let up : leq (eq_by_cmp nat_cmp) (cell_prefix i q) (cell_prefix i (new_closure c q)) ≡ true
+      = cell_prefix_mono code_equality i _ _ (above_self q (leq_trans code_equality q n t less (new_below p))) in
+      let down : leq (eq_by_cmp nat_cmp) (cell_prefix i (new_closure c q)) q ≡ true
+      = cell_prefix_mono code_equality i _ _
+      (leq_trans code_equality (new_closure c q) (new_closure c n) n (closure_rises q n less) (closure_again p)) in
+      leq_antisymm code_equality _ _ down
+      (subst (λ x. leq (eq_by_cmp nat_cmp) x (cell_prefix i (new_closure c q)) ≡ true)
+      (cell_prefix-cell_prefix i i n (omega arith)) up)
+
+  -- the target of a label with the row's value
+  pub target_prefix : (p : Cell ℕ) (i v : ℕ)
+      → IsPrefix c (target_after_row (eq_by_cmp nat_cmp) (old_lead c p i v) t i) (suc i)
+  target_prefix p i v = subst (λ x. IsPrefix c x (suc i))
+      (upto-meet_after code_equality (old_closure c (with_value p i v)) t i) (closure_prefix (with_value p i v) (suc i))
+
+  -- the child in the dimension of the closure's next value
+  pub next_prefix : (p : Cell ℕ) (i v : ℕ) → IsPrefix c p i → slice_get (new_closure c p) i ≡ Some (Some v)
+      → IsPrefix c (with_value p i v) (suc i)
+  next_prefix p i v f e = subst (λ x. IsPrefix c x (suc i))
+      (upto-entry (new_closure c p) i v e ∙ ap (λ x. with_value x i v) f) (closure_prefix p (suc i))
 
   -- a node with a value more
   pub child_prefix : (p : Cell ℕ) (i v : ℕ)

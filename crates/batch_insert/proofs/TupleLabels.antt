@@ -1,10 +1,10 @@
 -- The labels with the row's value are set.
-use Rattle.std.proofs.Common.{◌≡◌, ◌≢◌, inl, inr, ℕ, Option, Some, None, length, nat_cmp, slice_index_or, refl, sym, ap, subst, ◌∙◌, arith}
+use Rattle.std.proofs.Common.{◌≡◌, ◌≢◌, inl, inr, ℕ, Option, Some, None, length, nat_cmp, slice_index_or, refl, sym, ap, subst, ◌∙◌}
 use Rattle.std.proofs.lemmas.Bool.Decides.{eqb_tells}
 use Rattle.std.specs.Ordering.{eq_by_cmp}
 use Rattle.std.specs.Option.{option_map}
 use Rattle.std.specs.FinMap as map
-use Rattle.cube_defs.specs.Cell.{Cell, depth, mask}
+use Rattle.cube_defs.specs.Cell.{Cell, mask}
 use Rattle.cube_defs.specs.Tree.{Edge, Tree, cell_at}
 use Rattle.cube_laws.specs.Lists.{Among}
 use Rattle.tree_laws.proofs.CallerLemmas.{some_same}
@@ -18,7 +18,7 @@ use Rattle.batch_insert.specs.Stages.{EdgesStay, HasLabel, IsSet, IsStage, Label
 use Rattle.batch_insert.specs.Whole.{IsTupleLabelOf}
 use Rattle.batch_insert.proofs.Coming.{prefix_told}
 use Rattle.qc_arena.proofs.CallerLemmas.{put_here, put_stays}
-use Rattle.batch_insert.proofs.Prefixes.{prefix_before, prefix_deep}
+use Rattle.batch_insert.proofs.Prefixes.{deep_prefix}
 use Rattle.batch_insert.proofs.Staging.{prefix_there, held, label_put, labels, put_sound, staged}
 use Rattle.batch_insert.proofs.Started.{record_known}
 
@@ -38,16 +38,13 @@ set_stays t b d f x same h
     )
 
 module _ (t : Cell ℕ) (a : Arena) (wide : length t ≡ a.width) (c : Case t a) where
-  deep_prefix : (p : Cell ℕ) (i : ℕ) → IsPrefix c p i → IsPrefix c p (depth p)
-  deep_prefix p i f = prefix_before t a wide c p (depth p) i (prefix_deep t a wide c p i f) (omega arith) f
-
   -- two of one node and one dimension have one target
   same_target : (x y : TupleLabel) (v : ℕ) → IsTupleLabelOf c x → IsTupleLabelOf c y → x.mask ≡ y.mask → x.dim ≡ y.dim
       → slice_index_or t x.dim None ≡ Some v → x.target ≡ y.target
   same_target x y v is also dims dim value =
       let node : is.node ≡ also.node
-      = prefix_told t a wide c is.node also.node (deep_prefix is.node x.dim is.front)
-      (deep_prefix also.node y.dim also.front) (is.dims ∙ dims ∙ sym also.dims) in
+      = prefix_told t a wide c is.node also.node (deep_prefix t a wide c is.node x.dim is.front)
+      (deep_prefix t a wide c also.node y.dim also.front) (is.dims ∙ dims ∙ sym also.dims) in
       sym (is.target v value)
       ∙ ap (λ p. mask (target_after_row (eq_by_cmp nat_cmp) (old_lead c p x.dim v) t x.dim)) node
       ∙ ap (λ i. mask (target_after_row (eq_by_cmp nat_cmp) (old_lead c also.node i v) t i)) dim

@@ -1,5 +1,5 @@
 // The forced children and the classes of the nodes that generalize the tuple.
-ghost use Rattle.std.specs.Prelude.{◌+◌, ◌*◌, All, IfSome, None, OnOk, Some, [], ◌∷◌, slice_index_or, ℕ, ◌≢◌, is_some, length, true, ◌≡◌, ◌≤◌};
+ghost use Rattle.std.specs.Prelude.{◌+◌, ◌*◌, All, IfSome, IsSome, None, Some, [], ◌∷◌, slice_index_or, ℕ, ◌≢◌, is_some, length, true, ◌≡◌, ◌≤◌};
 ghost use Rattle.aggregates.specs.Rows.{agg_of_row};
 ghost use Rattle.aggregates.specs.Views.{agg_in};
 ghost use Rattle.std.specs.Option.{option_map};
@@ -8,9 +8,8 @@ ghost use Rattle.qc_arena.specs.Map.{with_class, with_forced};
 ghost use Rattle.std.specs.FinMap as map;
 ghost use Rattle.batch_insert.specs.Stages.{HaveEnded};
 ghost use Rattle.batch_insert.specs.Invariants.{CanRewrite, IsInserting, KeepsNodes};
-ghost use Rattle.batch_insert.specs.Planned.{AreAmounts, IsNodeKind, IsForcedChild, TakesMore, sum_with};
+ghost use Rattle.batch_insert.specs.Planned.{AreAmounts, CanEnd, IsForcedChild, TakesMore, sum_with};
 
-use crate::Memory;
 use crate::numbers::Numbers;
 use crate::plan::{ForcedChild, NodeKind};
 use crate::tuples::tuple_code;
@@ -27,23 +26,19 @@ pub(crate) fn set_kinds<L: Ledger>(
     numbers: &Numbers,
     arena: &mut QcArena,
     steps: &mut Steps<L>,
-) -> Result<(), Memory>
+)
     requires repair { IsInserting tuple.now arena.old (numbered numbers.now) }
     requires amounts { AreAmounts amounts.now }
-    requires ends { All (λ e. IsNodeKind (length tuple.now) (length amounts.now) e) ends.now }
+    requires ends { All
+        (λ e. CanEnd (length tuple.now) (length amounts.now) (numbered numbers.now) e) ends.now }
     ensures keeps { KeepsNodes tuple.now arena.old arena.new }
-    ensures done { OnOk result
-        (HaveEnded tuple.now amounts.now (numbered numbers.now) ends.now arena.old.now
-        arena.new.now) }
-    ensures steps { OnOk result (steps.new ≤ steps.old + 2 * length ends.now) }
+    ensures done { HaveEnded tuple.now amounts.now (numbered numbers.now) ends.now arena.old.now
+        arena.new.now }
+    ensures steps { steps.new ≤ steps.old + 2 * length ends.now }
 {
     'ends: for k in 0..ends.len() {
-        match set_kind(ends[k], tuple, amounts, numbers, arena, steps) {
-            Ok(()) => {}
-            Err(error) => return Err(error),
-        }
+        set_kind(ends[k], tuple, amounts, numbers, arena, steps);
     }
-    Ok(())
 }
 
 fn set_kind<L: Ledger>(
@@ -53,26 +48,21 @@ fn set_kind<L: Ledger>(
     numbers: &Numbers,
     arena: &mut QcArena,
     steps: &mut Steps<L>,
-) -> Result<(), Memory>
+)
     requires repair { IsInserting tuple.now arena.old (numbered numbers.now) }
     requires amounts { AreAmounts amounts.now }
-    requires end { IsNodeKind (length tuple.now) (length amounts.now) end }
+    requires end { CanEnd (length tuple.now) (length amounts.now) (numbered numbers.now) end }
     ensures keeps { KeepsNodes tuple.now arena.old arena.new }
-    ensures done { OnOk result
-        (HaveEnded tuple.now amounts.now (numbered numbers.now)
-        (end ∷ []) arena.old.now arena.new.now) }
-    ensures steps { OnOk result (steps.new ≤ steps.old + 2) }
+    ensures done { HaveEnded tuple.now amounts.now (numbered numbers.now) (end ∷ []) arena.old.now
+        arena.new.now }
+    ensures steps { steps.new ≤ steps.old + 2 }
 {
-    let node = match numbers.number_of(end.mask) {
-        Ok(node) => node,
-        Err(error) => return Err(error),
-    };
+    let node = numbers.number_of(end.mask);
     match end.forced {
         Some(forcing) => set_forced_child(node, forcing, tuple, numbers, arena, steps),
         None => {
             let agg = with_row(end.before, amounts);
             mark(node, agg, tuple, arena, steps);
-            Ok(())
         }
     }
 }
@@ -84,30 +74,27 @@ fn set_forced_child<L: Ledger>(
     numbers: &Numbers,
     arena: &mut QcArena,
     steps: &mut Steps<L>,
-) -> Result<(), Memory>
+)
     requires no_any { All (λ entry. is_some entry ≡ true) tuple.now }
     requires node { CanRewrite tuple.now arena.old node.0 }
     requires dim { IsForcedChild (length tuple.now) forcing }
+    requires child { IsSome (numbered numbers.now forcing.child) }
     ensures keeps { KeepsNodes tuple.now arena.old arena.new }
-    ensures here { OnOk result ((l : ℕ) × (v : ℕ) × (numbered numbers.now forcing.child ≡ Some l)
+    ensures here { (l : ℕ) × (v : ℕ) × (numbered numbers.now forcing.child ≡ Some l)
         × (slice_index_or tuple.now forcing.dim None ≡ Some v)
         × (map.get arena.new.now node.0
         ≡ option_map (with_forced (Some (record { dim = forcing.dim; value = v; target = l })))
-        (map.get arena.old.now node.0))) }
+        (map.get arena.old.now node.0)) }
     ensures others { (q : ℕ) → q ≢ node.0 → map.get arena.new.now q ≡ map.get arena.old.now q }
-    ensures steps { OnOk result (steps.new ≤ steps.old + 2) }
+    ensures steps { steps.new ≡ steps.old + 1 }
 {
-    let child = match numbers.number_of(forcing.child) {
-        Ok(child) => child,
-        Err(error) => return Err(error),
-    };
+    let child = numbers.number_of(forcing.child);
     let forced = Forced {
         dim: forcing.dim,
         code: tuple_code(tuple, forcing.dim),
         child,
     };
     arena.set_forced(node, Some(forced), steps);
-    Ok(())
 }
 
 // The aggregate with the row: that of the earlier rows, if there are any, and the row's amounts.

@@ -10,7 +10,7 @@ use aggregates::{Ratio, value_of};
 use cell_core::{Cell, NodeNo, Steps};
 use lower_bounds::{ClassHit, lower_bounds};
 use qc_arena::Nodes;
-use std::alloc::{AllocError, Global};
+use std::alloc::Global;
 use std::sync::ledger::Ledger;
 
 /// A class with its value.
@@ -78,10 +78,7 @@ pub(crate) fn values_at<T: Nodes, L: Ledger>(
             Ok(value) => value,
             Err(error) => return Err(error),
         };
-        match values.push(value) {
-            Ok(()) => {}
-            Err(_) => return Err(AllocError),
-        }
+        values.push_reserved(value);
     }
     Ok(values)
 }

@@ -1,6 +1,7 @@
 // The classes that were added and removed since `begin`.
-ghost use Rattle.std.specs.Prelude.{IfOk, OnOk, None, [], false, if◌then◌else◌, length, slice_get, ℕ, ◌++◌, ◌∷◌, ◌<◌, ◌≡◌, ◌≤◌};
+ghost use Rattle.std.specs.Prelude.{IfOk, None, false, if◌then◌else◌, length, slice_get, ℕ, ◌+◌, ◌<◌, ◌≡◌, ◌≤◌};
 ghost use Rattle.std.specs.Option.{option_map};
+ghost use Rattle.std.specs.Vec.{vec_capacity};
 ghost use Rattle.aggregates.specs.Views.{agg_in};
 ghost use Rattle.slab.specs.Slab as slots;
 ghost use Rattle.qc_arena.specs.Entries.{IsOnce};
@@ -18,7 +19,7 @@ use crate::touched::Touched;
 use aggregates::Agg;
 use cell_core::NodeNo;
 use slab::Slab;
-use std::alloc::{AllocError, Global};
+use std::alloc::Global;
 
 /// The class of a place, if it has one.
 pub(crate) fn class_in_place(
@@ -47,32 +48,21 @@ fn sides<'a>(
     if added { (was, now) } else { (now, was) }
 }
 
-// Appends the pair of a node and its aggregate.
-fn add_pair(pairs: &mut Vec<(NodeNo, Agg)>, node: u32, agg: Agg) -> Result<(), Memory>
-    ensures { OnOk result (pairs.new.items ≡ pairs.old.items ++ (record { 0 = node }, agg) ∷ []) }
-{
-    match pairs.push((NodeNo(node), agg)) {
-        Ok(()) => Ok(()),
-        Err(_) => Err(AllocError),
-    }
-}
-
-// Appends the pair of a node and its class, if the class differs from the other side's.
-fn add_new(
-    pairs: &mut Vec<(NodeNo, Agg)>,
-    node: u32,
-    from: &Option<Agg>,
-    to: &Option<Agg>,
-) -> Result<(), Memory>
-    ensures { OnOk result (AddsNew node (option_map agg_in from.now)
-        (option_map agg_in to.now) pairs.old.items pairs.new.items) }
+// Appends the pair of a node and its class, if the class differs from the other side's. There is
+// room for it.
+fn add_new(pairs: &mut Vec<(NodeNo, Agg)>, node: u32, from: &Option<Agg>, to: &Option<Agg>)
+    requires { length pairs.old.items < vec_capacity pairs.old }
+    ensures adds { AddsNew node (option_map agg_in from.now)
+        (option_map agg_in to.now) pairs.old.items pairs.new.items }
+    ensures few { length pairs.new.items ≤ length pairs.old.items + 1 }
+    ensures room { vec_capacity pairs.new ≡ vec_capacity pairs.old }
 {
     if same_class(from, to) {
-        return Ok(());
+        return;
     }
     match to {
-        None => Ok(()),
-        Some(agg) => add_pair(pairs, node, *agg),
+        None => {}
+        Some(agg) => pairs.push_reserved((NodeNo(node), *agg)),
     }
 }
 
@@ -114,10 +104,7 @@ pub(crate) fn changed(
         let (node, was) = images.at(k);
         let now = class_in_place(nodes, parts, node);
         let (from, to) = sides(added, &was, &now);
-        match add_new(&mut pairs, node, from, to) {
-            Ok(()) => {}
-            Err(error) => return Err(error),
-        }
+        add_new(&mut pairs, node, from, to);
     }
     Ok(pairs)
 }

@@ -10,7 +10,7 @@ use crate::Memory;
 use cell_core::{Cell, Cells, NodeNo, Steps};
 use lower_bounds::ClassHit;
 use qc_arena::Nodes;
-use std::alloc::{AllocError, Global};
+use std::alloc::Global;
 use std::sync::ledger::Ledger;
 use tree_search::CanonicalTree;
 
@@ -57,10 +57,7 @@ pub fn classes_alone<T: Nodes, L: Ledger>(
     };
     'nodes: for node in nodes {
         let class = class_alone(alloc, &tree, *node, steps);
-        match classes.push(class) {
-            Ok(()) => {}
-            Err(_) => return Err(AllocError),
-        }
+        classes.push_reserved(class);
     }
     Ok(classes)
 }

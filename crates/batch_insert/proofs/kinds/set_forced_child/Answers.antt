@@ -1,8 +1,5 @@
-use Rattle.batch_insert.proofs.Keeping.{keeps_forced, keeps_same}
+use Rattle.batch_insert.proofs.Keeping.{keeps_forced}
 use Rattle.batch_insert.proofs.kinds.set_forced_child.Goals as goal
-
-pub returns-in-Err-clause-keeps : goal.returns-in-Err-clause-keeps
-returns-in-Err-clause-keeps g c = keeps_same c.args.tuple.now c.args.arena.now c.requires.node.change.opened
 
 pub returns-clause-keeps : goal.returns-clause-keeps
 returns-clause-keeps g c

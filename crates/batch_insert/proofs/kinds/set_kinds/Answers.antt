@@ -12,29 +12,20 @@ set_kind-requires-clause-repair g c
     = repair_then c.args.tuple.now c.args.arena.now c.ends.arena (numbered c.args.numbers.now) c.ends.invariant.keeps
     c.requires.repair
 
-pub returns-in-Err : goal.returns-in-Err
-returns-in-Err g c = record {
-  keeps
-      = keeps_then c.args.tuple.now c.args.arena.now c.ends.arena c.set_kind.new.arena c.ends.invariant.keeps
-      c.in-Err.ensures.keeps;
-  done = tt;
-  steps = tt;
-}
-
 pub ends-preserved : goal.ends-preserved
 ends-preserved g c = record {
   steps = omega (
     arith,
     c.ends.invariant.steps,
-    c.in-Ok.ensures.steps,
+    c.set_kind.ensures.steps,
     taken_length c.args.ends.now c.ends.k c.index-ends-k.result c.ends-test.true,
   );
   keeps = keeps_then c.args.tuple.now c.args.arena.now c.ends.arena c.set_kind.new.arena c.ends.invariant.keeps
-      c.in-Ok.ensures.keeps;
+      c.set_kind.ensures.keeps;
   done = ended_next c.args.tuple.now (numbered c.args.numbers.now) c.args.arena.now.now c.ends.arena.now
       c.set_kind.new.arena.now c.args.amounts.now c.args.ends.now c.ends.k _ c.ends-test.true c.ends.invariant.done
       (subst (λ x. HaveEnded c.args.tuple.now c.args.amounts.now (numbered c.args.numbers.now)
-      (x ∷ []) c.ends.arena.now c.set_kind.new.arena.now) c.index-ends-k.is c.in-Ok.ensures.done);
+      (x ∷ []) c.ends.arena.now c.set_kind.new.arena.now) c.index-ends-k.is c.set_kind.ensures.done);
 }
 
 pub ends-init : goal.ends-init

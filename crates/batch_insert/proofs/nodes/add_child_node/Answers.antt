@@ -1,5 +1,4 @@
 use Rattle.std.proofs.Common.{◌∙◌, arith, refl}
-use Rattle.batch_insert.proofs.Keeping.{keeps_same}
 use Rattle.batch_insert.proofs.Reading.{same_error}
 use Rattle.batch_insert.proofs.Counting.{spot_more}
 use Rattle.batch_insert.proofs.Coming.{begun_spot_new}
@@ -9,41 +8,41 @@ use Rattle.batch_insert.proofs.nodes.add_child_node.Goals as goal
 
 pub add_new-requires-clause-under : goal.add_new-requires-clause-under
 add_new-requires-clause-under g c
-    = place_is c.args.tuple.now c.args.arena.now c.args.spot (numbered c.args.numbers.now) c.in-Ok.parent.0
-    c.requires.repair.numbers c.in-Ok.ensures c.requires.spot c.tuple_code-code.result c.tuple_code-code.ensures.small
+    = place_is c.args.tuple.now c.args.arena.now c.args.spot (numbered c.args.numbers.now) c.number_of-parent.result.0
+    c.requires.repair.numbers c.number_of-parent.ensures c.requires.spot c.tuple_code-code.result c.tuple_code-code.ensures.small
     c.requires.repair.width
 
 pub add_new-requires-clause-below : goal.add_new-requires-clause-below
 add_new-requires-clause-below g c
-    = new_below c.args.tuple.now c.args.arena.now c.args.spot (numbered c.args.numbers.now) c.in-Ok.parent.0
-    c.requires.repair.numbers c.in-Ok.ensures c.requires.spot c.tuple_code-code.result c.tuple_code-code.ensures.value
+    = new_below c.args.tuple.now c.args.arena.now c.args.spot (numbered c.args.numbers.now) c.number_of-parent.result.0
+    c.requires.repair.numbers c.number_of-parent.ensures c.requires.spot c.tuple_code-code.result c.tuple_code-code.ensures.value
 
 pub returns-in-Ok-noted-clause-repair : goal.returns-in-Ok-noted-clause-repair
 returns-in-Ok-noted-clause-repair g c =
     repair_more c.args.tuple.now c.args.arena.now c.add_new.new.arena (numbered c.args.numbers.now)
-    (numbered c.noted.new.numbers) c.args.spot.mask c.in-Ok-add_new.node.0 c.in-Ok-add_new.ensures.keeps
+    (numbered c.noted.new.numbers) c.args.spot.mask c.in-Ok.node.0 c.in-Ok.ensures.keeps
     c.requires.repair
-    (new_number c.args.tuple.now c.args.arena.now c.args.spot (numbered c.args.numbers.now) c.in-Ok.parent.0
-    c.requires.repair.numbers c.in-Ok.ensures c.requires.spot c.add_new.new.arena c.in-Ok-add_new.node.0
-    c.tuple_code-code.result c.tuple_code-code.ensures.value c.in-Ok-add_new.ensures.here
-    c.in-Ok-add_new.ensures.touched)
+    (new_number c.args.tuple.now c.args.arena.now c.args.spot (numbered c.args.numbers.now) c.number_of-parent.result.0
+    c.requires.repair.numbers c.number_of-parent.ensures c.requires.spot c.add_new.new.arena c.in-Ok.node.0
+    c.tuple_code-code.result c.tuple_code-code.ensures.value c.in-Ok.ensures.here
+    c.in-Ok.ensures.touched)
     c.in-Ok-noted.ensures.noted
 
 pub returns-in-Ok-noted-clause-begun : goal.returns-in-Ok-noted-clause-begun
 returns-in-Ok-noted-clause-begun g c = λ a k w begun none is old.
     begun_spot_new c.args.tuple.now a w k c.args.arena.now.now (numbered c.args.numbers.now)
-    (numbered c.noted.new.numbers) c.args.spot c.in-Ok-add_new.node.0 c.in-Ok.parent.0 c.tuple_code-code.result
+    (numbered c.noted.new.numbers) c.args.spot c.in-Ok.node.0 c.number_of-parent.result.0 c.tuple_code-code.result
     c.add_new.new.arena.now begun none c.in-Ok-noted.ensures.noted is old
-    c.in-Ok.ensures c.tuple_code-code.ensures.value c.in-Ok-add_new.ensures.free c.in-Ok-add_new.ensures.here
-    c.in-Ok-add_new.ensures.others
+    c.number_of-parent.ensures c.tuple_code-code.ensures.value c.in-Ok.ensures.free c.in-Ok.ensures.here
+    c.in-Ok.ensures.others
 
 pub returns-in-Ok-noted-clause-noted : goal.returns-in-Ok-noted-clause-noted
-returns-in-Ok-noted-clause-noted g c = (c.in-Ok-add_new.node.0, c.in-Ok-noted.ensures.noted)
+returns-in-Ok-noted-clause-noted g c = (c.in-Ok.node.0, c.in-Ok-noted.ensures.noted)
 
-pub returns-in-Err-add_new-clause-full : goal.returns-in-Err-add_new-clause-full
-returns-in-Err-add_new-clause-full g c = λ h a k w begun none is old.
+pub returns-in-Err-clause-full : goal.returns-in-Err-clause-full
+returns-in-Err-clause-full g c = λ h a k w begun none is old.
     spot_more c.args.tuple.now a w k c.args.arena.now.now (numbered c.args.numbers.now) c.args.spot c.args.arena.now.max
-    begun none is old (c.add_new.ensures.full.0 (same_error c.add_new.result _ _ _ c.in-Err-add_new.is refl h))
+    begun none is old (c.add_new.ensures.full.0 (same_error c.add_new.result _ _ _ c.in-Err.is refl h))
 
 pub tuple_code-code-requires : goal.tuple_code-code-requires
 tuple_code-code-requires g c = record { no_any = c.requires.repair.no_any; dim = c.requires.spot.within }
@@ -52,19 +51,16 @@ pub add_new-requires-clause-opened : goal.add_new-requires-clause-opened
 add_new-requires-clause-opened g c = c.requires.repair.opened
 
 pub returns-in-Err-clause-keeps : goal.returns-in-Err-clause-keeps
-returns-in-Err-clause-keeps g c = keeps_same c.args.tuple.now c.args.arena.now c.requires.repair.opened
-
-pub returns-in-Err-add_new-clause-keeps : goal.returns-in-Err-add_new-clause-keeps
-returns-in-Err-add_new-clause-keeps g c = c.add_new.ensures.keeps
+returns-in-Err-clause-keeps g c = c.add_new.ensures.keeps
 
 pub returns-in-Ok-noted-clause-keeps : goal.returns-in-Ok-noted-clause-keeps
-returns-in-Ok-noted-clause-keeps g c = c.in-Ok-add_new.ensures.keeps
+returns-in-Ok-noted-clause-keeps g c = c.in-Ok.ensures.keeps
 
 pub returns-in-Err-noted-clause-keeps : goal.returns-in-Err-noted-clause-keeps
-returns-in-Err-noted-clause-keeps g c = c.in-Ok-add_new.ensures.keeps
+returns-in-Err-noted-clause-keeps g c = c.in-Ok.ensures.keeps
 
 pub returns-in-Err-noted-clause-full : goal.returns-in-Err-noted-clause-full
 returns-in-Err-noted-clause-full g c = λ h. absurd (c.noted.ensures.fails (c.in-Err-noted.is ∙ h))
 
 pub returns-in-Ok-noted-clause-steps : goal.returns-in-Ok-noted-clause-steps
-returns-in-Ok-noted-clause-steps g c = omega (arith, c.in-Ok-add_new.ensures.steps)
+returns-in-Ok-noted-clause-steps g c = omega (arith, c.in-Ok.ensures.steps)

@@ -39,9 +39,13 @@ images-preserved c =
     (subst (λ (x : Option defs.Agg). AddsNew c.at-node.result.0 x (to_side b was now e.0.0) c.images.pairs.items
     c.add_new.new.pairs.items) from
     (subst (λ (x : Option defs.Agg). AddsNew c.at-node.result.0 (option_map agg_in c.sides.result.0.now) x
-    c.images.pairs.items c.add_new.new.pairs.items) to c.in-Ok-add_new.ensures)) in
-    new_more (from_side b was now) (to_side b was now) m c.count_of-count.ensures.once c.images.k e.0
-    c.images.pairs.items c.add_new.new.pairs.items e.1 c.images.invariant adds
+    c.images.pairs.items c.add_new.new.pairs.items) to c.add_new.ensures.adds)) in
+    record {
+      new = new_more (from_side b was now) (to_side b was now) m c.count_of-count.ensures.once c.images.k e.0
+          c.images.pairs.items c.add_new.new.pairs.items e.1 c.images.invariant.new adds;
+      few = omega (arith, c.add_new.ensures.few, c.images.invariant.few);
+      room = omega (arith, c.add_new.ensures.room, c.images.invariant.room);
+    }
 
 pub returns : goal.returns
 returns c =
@@ -61,4 +65,4 @@ returns c =
     new_all (from_side b was now) (to_side b was now) m c.count_of-count.ensures.once (length m) c.images.pairs.items
     (omega arith) (λ q h. sides_still b was now q (was_still s m q h))
     (new_rest (from_side b was now) (to_side b was now) m c.count_of-count.ensures.once c.images.k c.images.pairs.items
-    fits none c.images.invariant)
+    fits none c.images.invariant.new)
