@@ -9,15 +9,18 @@ use Rattle.quotient_lattice.proofs.Turns.{map_more}
 use Rattle.quotient_lattice.proofs.classes.classes_alone.Goals as goal
 
 pub nodes-preserved : goal.nodes-preserved
-nodes-preserved g c = λ source h.
-    map_more hit_in (λ (node : NodeNo). lattice.class_alone nat_cmp source.measures source.rows
-    (record_at c.of-tree.result.tree node.0).cell)
-    c.nodes.classes.items c.push.new.self.items c.class_alone-class.result c.args.nodes.now c.nodes.node-index _
-    (omega arith) (search rules) (c.nodes.invariant source h) (c.class_alone-class.ensures source h)
+nodes-preserved g c = record {
+  told = λ source h.
+      map_more hit_in (λ (node : NodeNo). lattice.class_alone nat_cmp source.measures source.rows
+      (record_at c.of-tree.result.tree node.0).cell)
+      c.nodes.classes.items c.push.new.self.items c.class_alone-class.result c.args.nodes.now c.nodes.node-index _
+      (omega arith) (search rules) (c.nodes.invariant.told source h) (c.class_alone-class.ensures.class source h);
+  steps = omega (arith, c.nodes.invariant.steps, c.class_alone-class.ensures.steps);
+}
 
-pub returns : goal.returns
-returns g c =
-    let told = rw (c.of-tree.ensures.width, c.of-tree.ensures.tree) at c.nodes.invariant in
+pub returns-clause-classes : goal.returns-clause-classes
+returns-clause-classes g c =
+    let told = rw (c.of-tree.ensures.width, c.of-tree.ensures.tree) at c.nodes.invariant.told in
     λ source h. rw (take_all c.nodes.node-index c.args.nodes.now (omega arith)) at (told source h)
 
 pub class_alone-class-requires : goal.class_alone-class-requires

@@ -1,4 +1,4 @@
-use Rattle.std.proofs.Common.{◌≡◌, map, take}
+use Rattle.std.proofs.Common.{◌≡◌, ◌≤◌, ◌+◌, ◌*◌, map, take}
 use Rattle.std.specs.Ordering.{nat_cmp}
 use Rattle.tree_search.specs.Found.{IsTreeOf, TreeRows}
 use Rattle.lower_bounds.specs.Classes.{hit_in}
@@ -8,8 +8,10 @@ use Rattle.quotient_lattice.specs.Neighbours as lattice
 use Rattle.quotient_lattice.proofs.classes.classes_alone.Given as goal
 
 abbrev pub invariant-nodes : goal.invariant-nodes
-invariant-nodes g l =
-    (source : TreeRows) → IsTreeOf l.tree.width l.tree.tree source
-    → map hit_in l.classes.items
-    ≡ map (λ (node : NodeNo). lattice.class_alone nat_cmp source.measures source.rows
-    (record_at l.tree.tree node.0).cell) (take l.node-index l.nodes)
+invariant-nodes g l = record {
+  told : (source : TreeRows) → IsTreeOf l.tree.width l.tree.tree source
+      → map hit_in l.classes.items
+      ≡ map (λ (node : NodeNo). lattice.class_alone nat_cmp source.measures source.rows
+      (record_at l.tree.tree node.0).cell) (take l.node-index l.nodes);
+  steps : l.steps ≤ l.fn.steps + l.node-index * (2 * l.tree.width + 3);
+}
