@@ -58,3 +58,33 @@ steps_end m n start rest way all new on values same few le h =
     total : (new start r w e values all m : ℕ) → all ≤ m → e ≤ r → new + r + 3 * values ≤ start + (w + e) + 3 * all + 1
         → new + 1 ≤ start + (w + 3 * m + 2)
     total new start r w e values all m a b h = omega arith
+
+-- one class more, of those that are visited
+pub steps_more : (each counted one all start old new : ℕ) → old ≤ start + each * counted → new ≤ old + each * one
+    → counted + one ≤ all → new ≤ start + each * all
+steps_more each counted one all start old new h l le =
+    let split : (counted + one) * each ≡ each * counted + each * one = grind arith in
+    let some : (counted + one) * each ≤ all * each = mul-le-mul_right each le in
+    let turn : all * each ≡ each * all = grind arith in
+    omega (arith, h, l, split, some, turn)
+
+-- no more classes than all
+pub steps_most : (each counted all start now : ℕ) → now ≤ start + each * counted → counted ≤ all
+    → now ≤ start + each * all
+steps_most each counted all start now h le =
+    let some : counted * each ≤ all * each = mul-le-mul_right each le in
+    let turn : counted * each ≡ each * counted = grind arith in
+    let turned : all * each ≡ each * all = grind arith in
+    omega (arith, h, some, turn, turned)
+
+-- a class that is asked for is counted once, and its cell is read
+pub steps_of_met : (n edges : ℕ) → 1 + (2 * n + 2) ≤ 17 * (n + 1) * (edges + 1)
+steps_of_met n edges =
+    let some : 17 * (n + 1) * (edges + 1) ≡ 17 * (n + 1) * edges + 17 * (n + 1) = grind arith in
+    omega (arith, some)
+
+-- of another the children are found
+pub steps_of_seen : (n edges : ℕ) → 1 + 16 * (n + 1) * (edges + 1) ≤ 17 * (n + 1) * (edges + 1)
+steps_of_seen n edges =
+    let split : 17 * (n + 1) * (edges + 1) ≡ 16 * (n + 1) * (edges + 1) + ((n + 1) * edges + n + 1) = grind arith in
+    omega (arith, split)

@@ -13,6 +13,7 @@ mod PickedNodes
 mod PlacedOrder
 mod ChildNodes
 mod Rolled
+pub mod RowCosts
 mod Visited
 mod Lowest
 pub mod DecodedAlone

@@ -6,7 +6,7 @@ use Rattle.std.proofs.lemmas.Bool.{false_from_ne_true}
 use Rattle.std.specs.Cmp.{nat_cmp_total}
 use Rattle.std.specs.FinMap as map
 use Rattle.std.specs.List.{range_with_len}
-use Rattle.std.specs.Option.{option_map}
+use Rattle.std.specs.Option.{option_map, option_map_or}
 use Rattle.cube_defs.specs.Cell.{Cell, depth, cell_prefix, depth_with, with_value}
 use Rattle.cube_defs.specs.Tree.{Edge, Tree, cell_at}
 use Rattle.cube_laws.specs.Parts.{value_count}
@@ -18,7 +18,7 @@ use Rattle.tree_search.specs.Found.{IsTreeOf, IsTree, IsNumberOfCell, TreeRows, 
 use Rattle.tree_search.proofs.CallerLemmas.{cell_of, cell_there, there_is, wide}
 use Rattle.cells_below.specs.Closed.{has_closure_in}
 use Rattle.cells_below.proofs.CallerLemmas.{leads_some}
-use Rattle.quotient_lattice.specs.Candidates.{ancestor_count, edges_on_way, edges_up, label_leads, lead_count, leads_by, leads_to}
+use Rattle.quotient_lattice.specs.Candidates.{edges_on_way, edges_up, label_leads, lead_count, leads_by, leads_to}
 use Rattle.quotient_lattice.specs.Candidates.{new_value}
 use Rattle.quotient_lattice.proofs.LabelsLead.{count-one}
 
@@ -141,7 +141,7 @@ module _ (dims : ℕ) (tree : Tree ℕ) (source : TreeRows) (h : IsTreeOf dims t
           less = less;
           edges = ap (λ n. edges_up tree n k) less
               ∙ ap (λ o. length (record_at tree k).edges
-              + ancestor_count (edges_up tree (value_count (record_at tree (name x)).cell)) o) parent;
+              + option_map_or (edges_up tree (value_count (record_at tree (name x)).cell)) o 0) parent;
         }
 
 -- the edges of a node are some of those on its way

@@ -3,6 +3,7 @@ use Rattle.std.specs.Prelude.{◌≡◌, ℕ, zero, suc, ◌+◌, ◌-◌, Bool,
 use Rattle.std.specs.Prelude.{slice_get, IsSome}
 use Rattle.std.specs.FinMap as map
 use Rattle.std.specs.List.{All, range_with_len}
+use Rattle.std.specs.Option.{option_map_or}
 use Rattle.cube_defs.specs.Cell.{Cell, with_value}
 use Rattle.cube_defs.specs.Tree.{Edge, Tree}
 use Rattle.cube_laws.specs.Parts.{value_count}
@@ -46,14 +47,10 @@ AreFound source tree u a n ks = (k : ℕ) → IsSome (map.get tree k)
 abbrev pub AreThere : Tree ℕ → List ℕ → Type 0
 AreThere tree ks = All (λ k. IsSome (map.get tree k)) ks
 
-abbrev pub ancestor_count : (ℕ → ℕ) → Option ℕ → ℕ
-ancestor_count f None = 0
-ancestor_count f (Some k) = f k
-
 -- how many edges the records have of a node and of so many of its ancestors
 abbrev pub edges_up : Tree ℕ → ℕ → ℕ → ℕ
 edges_up tree zero k = length (record_at tree k).edges
-edges_up tree (suc n) k = length (record_at tree k).edges + ancestor_count (edges_up tree n) (record_at tree k).parent
+edges_up tree (suc n) k = length (record_at tree k).edges + option_map_or (edges_up tree n) (record_at tree k).parent 0
 
 -- of all nodes from the root to this one
 abbrev pub edges_on_way : Tree ℕ → ℕ → ℕ

@@ -1,6 +1,6 @@
 // The classes of nodes, as they are reported.
 ghost use Rattle.std.specs.Ordering.{nat_cmp};
-ghost use Rattle.std.specs.Prelude.{All, IfOk, IsSome, length, map, ◌≡◌};
+ghost use Rattle.std.specs.Prelude.{All, IfOk, IsSome, length, map, ◌*◌, ◌+◌, ◌≡◌, ◌≤◌};
 ghost use Rattle.lower_bounds.specs.Classes.{hit_in};
 ghost use Rattle.qc_arena.specs.RecordReaders.{record_at};
 ghost use Rattle.tree_search.specs.Found.{IsTreeOf, IsTree, TreeRows};
@@ -22,9 +22,10 @@ fn class_alone<T: Nodes, L: Ledger>(
     steps: &mut Steps<L>,
 ) -> ClassHit
     requires { IsSome (record_at tree.now.tree node.0).class }
-    ensures { (source : TreeRows) → IsTreeOf tree.now.width tree.now.tree source →
+    ensures class { (source : TreeRows) → IsTreeOf tree.now.width tree.now.tree source →
         hit_in result ≡ lattice.class_alone nat_cmp source.measures source.rows
         (record_at tree.now.tree node.0).cell }
+    ensures steps { steps.new ≤ steps.old + (2 * tree.now.width + 3) }
 {
     let mut upper = Cell::any(alloc, tree.dims());
     tree.upper_into(node, &mut upper, steps);
@@ -36,7 +37,8 @@ fn class_alone<T: Nodes, L: Ledger>(
     }
 }
 
-/// The classes of some nodes, without their lower bounds.
+/// The classes of some nodes, without their lower bounds. With n dimensions it takes at most 2n + 3
+/// steps for each.
 pub fn classes_alone<T: Nodes, L: Ledger>(
     alloc: Global,
     tree: &T,
@@ -45,10 +47,11 @@ pub fn classes_alone<T: Nodes, L: Ledger>(
 ) -> Result<Vec<ClassHit>, Memory>
     requires tree { IsTree (T.width tree.now) (T.tree tree.now) }
     requires classes { All (λ node. IsSome (record_at (T.tree tree.now) node.0).class) nodes.now }
-    ensures { (source : TreeRows) → IsTreeOf (T.width tree.now) (T.tree tree.now) source →
+    ensures classes { (source : TreeRows) → IsTreeOf (T.width tree.now) (T.tree tree.now) source →
         IfOk result (λ classes. map hit_in classes.items
         ≡ map (λ node. lattice.class_alone nat_cmp source.measures source.rows
         (record_at (T.tree tree.now) node.0).cell) nodes.now) }
+    ensures steps { steps.new ≤ steps.old + length nodes.now * (2 * T.width tree.now + 3) }
 {
     let tree = CanonicalTree::of(tree);
     let mut classes = match Vec::with_capacity(alloc, nodes.len()) {

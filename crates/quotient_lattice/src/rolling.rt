@@ -1,7 +1,7 @@
 // Roll-ups: the most general classes that pass, from a class on.
 ghost use Rattle.std.specs.FinMap as map;
 ghost use Rattle.std.specs.List.{IsDistinct};
-ghost use Rattle.std.specs.Prelude.{All, IfOk, IsSome, OnOk, [], filter, length, map as mapped, nat_eq, ℕ, ◌≡◌, ◌↔◌, ◌∷◌, ◌++◌, true};
+ghost use Rattle.std.specs.Prelude.{All, IfOk, IsSome, OnOk, [], filter, length, map as mapped, nat_eq, ℕ, ◌≡◌, ◌↔◌, ◌∷◌, ◌++◌, true, ◌*◌, ◌+◌, ◌≤◌};
 ghost use Rattle.std.specs.Ordering.{nat_cmp};
 ghost use Rattle.cube_defs.specs.Text.{text_cmp};
 ghost use Rattle.cube_laws.specs.Lists.{Among};
@@ -12,6 +12,8 @@ ghost use Rattle.qc_arena.specs.RecordReaders.{record_at};
 ghost use Rattle.tree_search.specs.Found.{IsTreeOf, IsTree, TreeRows};
 ghost use Rattle.value_dict.specs.Recoded.{has_code, decoded_row_list};
 ghost use Rattle.value_dict.specs.Decoded.{decoded_cell};
+ghost use Rattle.quotient_lattice.specs.Candidates.{edges_on_way};
+ghost use Rattle.quotient_lattice.specs.Costs.{size_from};
 ghost use Rattle.quotient_lattice.specs.Neighbours as lattice;
 ghost use Rattle.quotient_lattice.specs.NodeCells.{AreAt, IsPassing, number_of};
 ghost use Rattle.quotient_lattice.specs.DecodedNodes.{decoded_nodes};
@@ -33,7 +35,8 @@ use value_dict::Dict;
 // Whether the class of a node passes.
 fn wants<T: Nodes, L: Ledger>(selection: &Selection<T>, node: NodeNo, steps: &mut Steps<L>) -> bool
     requires { IsSome (record_at selection.now.tree.now.tree node.0).class }
-    ensures { result ≡ visits.wants selection.now.tree.now.tree selection.now.ask.now node.0 }
+    ensures value { result ≡ visits.wants selection.now.tree.now.tree selection.now.ask.now node.0 }
+    ensures steps { steps.new ≤ steps.old + 1 }
 {
     let total = selection.tree.class(node, steps).unwrap();
     passes(selection.ask, &total)
@@ -65,6 +68,7 @@ fn push_placed<T: Nodes, L: Ledger>(
         ++ node.0 ∷ []) }
     ensures cells { AreAt tree.now.tree met.old.items
         → OnOk result (AreAt tree.now.tree met.new.items) }
+    ensures steps { steps.new ≤ steps.old + (2 * tree.now.width + 2) }
 {
     let mut cell = Cell::any(*met.allocator(), tree.dims());
     tree.upper_into(node, &mut cell, steps);
@@ -90,6 +94,8 @@ fn visit<T: Nodes, L: Ledger>(
         (mapped number_of met.old.items) (mapped number_of met.new.items)) }
     ensures cells { AreAt selection.now.tree.now.tree met.old.items
         → OnOk result (AreAt selection.now.tree.now.tree met.new.items) }
+    ensures steps { steps.new ≤ steps.old + 17 * (selection.now.tree.now.width + 1)
+        * (edges_on_way selection.now.tree.now.tree node.0 + 1) }
 {
     if wants(selection, node, steps) {
         return push_placed(selection.tree, node, met, steps);
@@ -117,6 +123,10 @@ fn meet_all<T: Nodes, L: Ledger>(
         (mapped number_of met.new.items)) }
     ensures once { OnOk result (IsDistinct nat_eq (mapped number_of met.new.items)) }
     ensures cells { OnOk result (AreAt selection.now.tree.now.tree met.new.items) }
+    ensures steps { (source : TreeRows) →
+        IsTreeOf selection.now.tree.now.width selection.now.tree.now.tree source →
+        steps.new ≤ steps.old + 17 * (selection.now.tree.now.width + 1)
+        * size_from nat_cmp source.rows (record_at selection.now.tree.now.tree node.0).cell }
 {
     let _dims = selection.tree.dims();
     if seen.insert(node.0).is_err() {
@@ -148,6 +158,10 @@ fn met_from<T: Nodes, L: Ledger>(
         (mapped number_of met.items)) }
     ensures once { IfOk result (λ met. IsDistinct nat_eq (mapped number_of met.items)) }
     ensures cells { IfOk result (λ met. AreAt selection.now.tree.now.tree met.items) }
+    ensures steps { (source : TreeRows) →
+        IsTreeOf selection.now.tree.now.width selection.now.tree.now.tree source →
+        steps.new ≤ steps.old + 17 * (selection.now.tree.now.width + 1)
+        * size_from nat_cmp source.rows (record_at selection.now.tree.now.tree node.0).cell }
 {
     let mut seen = IndexSet::new(alloc);
     let mut met = Vec::new(alloc);
@@ -196,7 +210,8 @@ fn most_general_of(alloc: Global, met: &Vec<NodeCell>) -> Result<Vec<NodeCell>, 
 
 /// The nodes of the most general classes that pass, of those that a class generalizes, itself
 /// included, in cell order by the texts of the dictionary. It goes through the children, but not
-/// past a class that passes.
+/// past a class that passes. With n dimensions it takes at most 17 (n + 1) (E + 1) steps for each
+/// class that the given one generalizes, where E counts the edges at the nodes from the root to it.
 pub fn rollup<T: Nodes, L: Ledger>(
     alloc: Global,
     tree: &T,
@@ -217,6 +232,9 @@ pub fn rollup<T: Nodes, L: Ledger>(
         (decoded_cell dict.now.lists (record_at (T.tree tree.now) node.0).cell)) }
     ensures classes { IfOk result
         (λ nodes. All (λ node. IsSome (record_at (T.tree tree.now) node.0).class) nodes.items) }
+    ensures steps { (source : TreeRows) → IsTreeOf (T.width tree.now) (T.tree tree.now) source →
+        steps.new ≤ steps.old + 17 * (T.width tree.now + 1)
+        * size_from nat_cmp source.rows (record_at (T.tree tree.now) node.0).cell }
 {
     let _dims = dict.dims();
     let tree = CanonicalTree::of(tree);

@@ -11,8 +11,8 @@ use Rattle.lower_bounds.proofs.CallerLemmas.{class_there}
 use Rattle.iceberg_query.proofs.CallerLemmas.{class_agg}
 use Rattle.quotient_lattice.proofs.classes.class_alone.Goals as goal
 
-pub returns : goal.returns
-returns g c = λ source h.
+pub returns-clause-class : goal.returns-clause-class
+returns-clause-class g c = λ source h.
     let tree = c.args.tree.now.tree in
     let k = c.args.node.0 in
     let t = class_there tree k c.requires in

@@ -14,13 +14,14 @@ nodes-preserved g c = record {
       (record_at c.of-tree.result.tree node.0).cell)
       c.nodes.classes.items c.push_reserved.new.self.items c.class_alone-class.result c.args.nodes.now
       c.nodes.node-index _ (omega arith) c.push_reserved.ensures.items (c.nodes.invariant.hits source h)
-      (c.class_alone-class.ensures source h);
+      (c.class_alone-class.ensures.class source h);
   few = omega (arith, c.push_reserved.ensures.len, c.nodes.invariant.few);
   room = omega (arith, c.push_reserved.ensures.capacity, c.nodes.invariant.room);
+  steps = omega (arith, c.nodes.invariant.steps, c.class_alone-class.ensures.steps);
 }
 
-pub returns : goal.returns
-returns g c =
+pub returns-clause-classes : goal.returns-clause-classes
+returns-clause-classes g c =
     let told = rw (c.of-tree.ensures.width, c.of-tree.ensures.tree) at c.nodes.invariant.hits in
     λ source h. rw (take_all c.nodes.node-index c.args.nodes.now (omega arith)) at (told source h)
 

@@ -1,4 +1,4 @@
-use Rattle.std.proofs.Common.{◌≡◌, ◌≤◌, length, map, take}
+use Rattle.std.proofs.Common.{◌≡◌, ◌≤◌, ◌+◌, ◌*◌, length, map, take}
 use Rattle.std.specs.Vec.{vec_capacity}
 use Rattle.std.specs.Ordering.{nat_cmp}
 use Rattle.tree_search.specs.Found.{IsTreeOf, TreeRows}
@@ -16,4 +16,5 @@ invariant-nodes g l = record {
       (record_at l.tree.tree node.0).cell) (take l.node-index l.nodes);
   few : length l.classes.items ≤ l.node-index;
   room : length l.nodes ≤ vec_capacity l.classes;
+  steps : l.steps ≤ l.fn.steps + l.node-index * (2 * l.tree.width + 3);
 }

@@ -1,18 +1,22 @@
-use Rattle.std.proofs.Common.{true, false, true≢false, ◌≡◌, ◌<◌, Some, [], ◌∷◌, length, map, nat_eq, take, get_or, refl, sym, ap, subst}
-use Rattle.std.proofs.Common.{◌∙◌, arith, inl}
+use Rattle.std.proofs.Common.{true, false, true≢false, ◌≡◌, ◌<◌, ◌≤◌, ◌+◌, ◌*◌, ℕ, Some, [], ◌∷◌, ◌++◌, length, map, nat_eq, take, get_or, refl, sym}
+use Rattle.std.proofs.Common.{ap, subst, ◌∙◌, arith, inl}
 use Rattle.std.specs.Prelude.{Err, Ok, OnOk, Result, is_err, slice_get}
 use Rattle.std.specs.Option.{option_copied}
-use Rattle.std.specs.List.{IsDistinct}
+use Rattle.std.specs.List.{IsDistinct, sum_by}
+use Rattle.std.proofs.lemmas.List.Sums.{sum_by-take-le}
 use Rattle.cube_laws.specs.Lists.{Among}
 use Rattle.cube_laws.proofs.CallerLemmas.{get_among, got}
 use Rattle.indexmap.specs.IndexSet.{insert_key}
 use Rattle.tree_laws.proofs.CallerLemmas.{some_same}
+use Rattle.quotient_lattice.specs.Candidates.{edges_on_way}
 use Rattle.quotient_lattice.specs.NodeCells.{number_of}
 use Rattle.quotient_lattice.specs.Visits.{AreQueued, wants}
 use Rattle.quotient_lattice.proofs.ChildNodes.{once_none}
+use Rattle.quotient_lattice.proofs.Counted.{steps_more, steps_most}
 use Rattle.quotient_lattice.proofs.ParentNodes.{class_some}
+use Rattle.quotient_lattice.proofs.RowCosts.{next_counted, next_within, within_size}
 use Rattle.quotient_lattice.proofs.Visited.{inserted_among, all_met, all_once, alone, first_seen, grown, none_met, visited_met}
-use Rattle.quotient_lattice.proofs.Visited.{visited_once, visited_seen}
+use Rattle.quotient_lattice.proofs.Visited.{visited_once, visited_seen, visited_take}
 use Rattle.quotient_lattice.proofs.rolling.meet_all.Goals as goal
 
 ok_gives : {T E P : Type 0} (r : Result T E) → is_err r ≡ false → OnOk r P → P
@@ -33,6 +37,7 @@ seen-init g c =
       each = none_met tree c.args.selection.now.ask.now keys c.args.met.now.items c.requires.none_met;
       once = once_none c.args.met.now.items c.requires.none_met;
       cells = λ k d l. absurd (omega (arith, l, ap length c.requires.none_met));
+      steps = omega arith;
     }
 
 pub visit-requires : goal.visit-requires
@@ -54,6 +59,7 @@ seen-preserved g c =
     let x = c.unwrap-number.result.now in
     let met = map number_of c.seen.met.items in
     let more = map number_of c.visit.new.met.items in
+    let count : ℕ → ℕ = λ k. edges_on_way tree k + 1 in
     let inv = c.seen.invariant in
     let l : c.seen.i < length seen = omega (arith, c.seen-test.true, c.len.ensures.len) in
     let here : slice_get seen c.seen.i ≡ Some x = sym c.get_index.ensures.key
@@ -74,6 +80,12 @@ seen-preserved g c =
       once = visited_once n tree source h ask c.args.node.0 seen after c.seen.i x l at met more
           (inv.seen source h) v inv.apart inv.each inv.once;
       cells = c.in-Ok.ensures.cells inv.cells;
+      steps = subst (λ ks. c.visit.new.steps ≤ c.args.steps.now + 17 * (n + 1) * sum_by count ks)
+          (sym (visited_take n tree source h ask c.args.node.0 seen after c.seen.i x l at met more
+          (inv.seen source h) v))
+          (steps_more (17 * (n + 1)) (sum_by count (take c.seen.i seen)) (count x)
+          (sum_by count (take c.seen.i seen ++ x ∷ [])) c.args.steps.now c.seen.steps c.visit.new.steps
+          inv.steps c.in-Ok.ensures.steps (next_counted count (take c.seen.i seen) x));
     }
 
 pub returns-clause-met : goal.returns-clause-met
@@ -86,3 +98,30 @@ returns-clause-met g c = λ source h.
     (subst (λ i. AreQueued tree source c.args.selection.now.ask.now c.args.node.0 seen i) end (c.seen.invariant.seen source h))
     (λ k. subst (λ i. (Among k met → Among k (take i seen) × (wants tree c.args.selection.now.ask.now k ≡ true))
     × (Among k (take i seen) × (wants tree c.args.selection.now.ask.now k ≡ true) → Among k met)) end (c.seen.invariant.each k))
+
+pub returns-in-Err-clause-steps : goal.returns-in-Err-clause-steps
+returns-in-Err-clause-steps g c = λ source h.
+    let tree = c.args.selection.now.tree.now.tree in
+    let n = c.args.selection.now.tree.now.width in
+    let seen = c.seen.seen.keys in
+    let x = c.unwrap-number.result.now in
+    let inv = c.seen.invariant in
+    let count : ℕ → ℕ = λ k. edges_on_way tree k + 1 in
+    let l : c.seen.i < length seen = omega (arith, c.seen-test.true, c.len.ensures.len) in
+    let here : slice_get seen c.seen.i ≡ Some x = sym c.get_index.ensures.key
+    ∙ ap option_copied c.unwrap-number.ensures in
+    let at : get_or seen c.seen.i 0 ≡ x = some_same (sym (got seen c.seen.i 0 l) ∙ here) in
+    let all = within_size n tree source h c.args.node.0 seen inv.apart (inv.seen source h).above in
+    steps_more (17 * (n + 1)) (sum_by count (take c.seen.i seen)) (count x) _ c.args.steps.now c.seen.steps
+    c.visit.new.steps inv.steps c.in-Err.ensures.steps (omega (arith, next_within count seen c.seen.i x l at, all))
+
+pub returns-clause-steps : goal.returns-clause-steps
+returns-clause-steps g c = λ source h.
+    let tree = c.args.selection.now.tree.now.tree in
+    let n = c.args.selection.now.tree.now.width in
+    let seen = c.seen.seen.keys in
+    let inv = c.seen.invariant in
+    let count : ℕ → ℕ = λ k. edges_on_way tree k + 1 in
+    let all = within_size n tree source h c.args.node.0 seen inv.apart (inv.seen source h).above in
+    steps_most (17 * (n + 1)) (sum_by count (take c.seen.i seen)) _ c.args.steps.now c.seen.steps inv.steps
+    (omega (arith, sum_by-take-le count seen c.seen.i, all))
