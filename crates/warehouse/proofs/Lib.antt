@@ -19,5 +19,6 @@ mod Trees
 mod MovedClasses
 mod Wider
 mod Images
+mod Touching
 mod Batches
 pub mod CallerLemmas

@@ -7,13 +7,13 @@ ghost use Rattle.cell_core.specs.Gives.{Gives};
 ghost use Rattle.csv_load.specs.Batch.{change_at, id_of, inserted, is_deletion, row_of};
 ghost use Rattle.cube_defs.specs.Tree.{IsCanonical, nodes};
 ghost use Rattle.qc_arena.specs.Map as arena;
-ghost use Rattle.qc_arena.specs.Map.{is_open, overlaid};
+ghost use Rattle.qc_arena.specs.Map.{is_open, is_touched, overlaid};
 ghost use Rattle.qc_schema.specs.Schema.{IsLayout};
 ghost use Rattle.std.specs.Ordering.{nat_cmp};
 ghost use Rattle.warehouse.specs.Batch as batches;
 ghost use Rattle.warehouse.specs.Batch.{first_number, first_twice, full_dim, result_of, texts_after, with_tuple};
 ghost use Rattle.warehouse.specs.Changing.{AreAsBefore, AreFit, AreInserted, AreMade, AreParts, CanInsert, IsBegun, IsInPlace, LeavesFrames, OnlyAdds, RowsAreMade, contents_of, state_in};
-ghost use Rattle.warehouse.specs.InPlace.{KeepsOtherRecords, KeepsNumbers, cost_in, cost_of_insertions};
+ghost use Rattle.warehouse.specs.InPlace.{KeepsOtherRecords, KeepsNumbers, TouchesOnly, cost_in, cost_of_insertions, has_image};
 ghost use Rattle.warehouse.specs.State.{IsIndexed, State};
 ghost use Rattle.warehouse.specs.Steps.{IsCause, IsOver, IsTreeBefore, is_there, rows_before, rows_from_place};
 ghost use Rattle.warehouse.specs.Stored.{IsTreeOfTable, IsStored, IsTreeOfSome, applied_in, refusal_in};
@@ -238,6 +238,8 @@ fn make_tree<L: Ledger>(
     ensures numbers { building ≡ Building.InPlace → KeepsNumbers tree.old.now tree.new.now }
     ensures apart { building ≡ Building.InPlace →
         KeepsOtherRecords (rows_from_place table.now first) tree.old.now tree.new.now }
+    ensures touches { OnOk result (building ≡ Building.InPlace →
+        TouchesOnly (rows_from_place table.now first) tree.new.now tree.old tree.new) }
     ensures steps { OnOk result (building ≡ Building.InPlace → steps.new ≤ steps.old
         + cost_of_insertions table.now.dims (rows_before table.now first)
         (rows_from_place table.now first)) }
@@ -263,7 +265,7 @@ fn change_and_build<L: Ledger>(
     ensures made { OnOk result (AreMade schema.now batch.changes cube.old cube.new) }
     ensures in_place { OnOk result (building ≡ Building.InPlace →
         IsInPlace (state_in schema.now cube.old) batch.changes cube.new.dict.lists
-        cube.old.tree.now cube.new.tree.now steps.old steps.new) }
+        cube.old.tree.now cube.new.tree.now (is_touched cube.new.tree) steps.old steps.new) }
     ensures cause { IfErr result (λ refused.
         IsCause refused (state_in schema.now cube.old) batch.changes) }
     ensures frames { LeavesFrames cube.old cube.new }
@@ -333,7 +335,7 @@ fn change_and_index<L: Ledger>(
     ensures made { OnOk result (AreMade schema.now batch.changes cube.old cube.new) }
     ensures in_place { OnOk result (building ≡ Building.InPlace →
         IsInPlace (state_in schema.now cube.old) batch.changes cube.new.dict.lists
-        cube.old.tree.now cube.new.tree.now steps.old steps.new) }
+        cube.old.tree.now cube.new.tree.now (is_touched cube.new.tree) steps.old steps.new) }
     ensures cause { IfErr result (λ refused.
         IsCause refused (state_in schema.now cube.old) batch.changes) }
     ensures frames { LeavesFrames cube.old cube.new }
@@ -371,7 +373,8 @@ pub(crate) fn make_changes<L: Ledger>(
         (contents_of schema.now cube.new index.new ≡ contents_of schema.now cube.old index.old) }
     ensures in_place { OnOk result (building ≡ Building.InPlace →
         IsInPlace (state_in schema.now cube.old) batch.changes cube.new.dict.lists
-        cube.old.tree.now cube.new.tree.now steps.old steps.new) }
+        cube.old.tree.now cube.new.tree.now (has_image cube.new.tree.last)
+        steps.old steps.new) }
     ensures parts { AreParts schema.now cube.new index.new }
     ensures images { OnOk result (overlaid cube.new.tree.last cube.new.tree.now
         ≡ cube.old.tree.now) }
