@@ -14,7 +14,7 @@ use Rattle.cube_defs.specs.Tree.{Tree, cell_at}
 use Rattle.qc_arena.specs.Codes.{Shape}
 use Rattle.qc_arena.specs.Map.{Arena, ImageMap, frame, is_touched, shape_of, was_at}
 use Rattle.warehouse.specs.Batch.{is_among}
-use Rattle.warehouse.specs.InPlace.{IsApart, KeepsNumbers, TouchesNoOthers, TouchesOnly, gone, has_image, kept}
+use Rattle.warehouse.specs.InPlace.{KeepsNumbers, TouchesNoOthers, TouchesOnly, gone, has_image, kept}
 use Rattle.warehouse.specs.Steps.{rows_at, rows_between}
 use Rattle.warehouse.proofs.Deletions.{all-gone, here-gone, kept-row}
 use Rattle.warehouse.proofs.Images.{begun}
@@ -38,9 +38,6 @@ touched-row row u tree a b same each k apart was = go (is_touched b k) (each k)
         let node = found refl was in
         absurd (true≢false (sym node.2 ∙ ap (λ (v : Cell ℕ). leq nat_eq node.0 v) same
         ∙ All-head (Apart node.0) row [] (apart node.0 node.1)))
-
-pub touched-none : (rows : List (Row ℕ)) (tree : Tree ℕ) (a : Arena) → TouchesOnly rows tree a a
-touched-none rows tree a k apart was = was
 
 -- a row more goes
 pub touched-gone : (ids : List ℕ) (id : ℕ) (rows : List (Row ℕ)) (r : Row ℕ) (b d e : Arena) → is_among id ids ≡ false
