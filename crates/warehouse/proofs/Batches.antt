@@ -8,7 +8,7 @@ use Rattle.cube_defs.specs.Text.{Text, text_cmp}
 use Rattle.cube_defs.specs.Tree.{IsCanonical, Tree, classes, nodes}
 use Rattle.measure_index.specs.Rankings.{Ranking}
 use Rattle.qc_arena.specs.Codes.{Shape}
-use Rattle.qc_arena.specs.Map.{Arena, is_open, shape_of}
+use Rattle.qc_arena.specs.Map.{Arena, is_open, is_touched, shape_of}
 use Rattle.qc_schema.specs.Schema.{Layout}
 use Rattle.tree_laws.proofs.CallerLemmas.{some_same}
 use Rattle.tree_laws.specs.Counts.{classes_in}
@@ -16,6 +16,7 @@ use Rattle.value_dict.specs.TextLists.{TextLists}
 use Rattle.value_dict.specs.Decoded.{RowsAreCodes, decoded_row}
 use Rattle.warehouse.specs.Batch.{after, result_of, rows_after, texts_after}
 use Rattle.warehouse.specs.Changing.{AreAsBefore, AreMade, AreParts, IsCommitted, IsInPlace, IsRolledBack, LeavesFrames, begun, state_in}
+use Rattle.warehouse.specs.InPlace.{has_image}
 use Rattle.warehouse.specs.State.{IsIndexed, State}
 use Rattle.warehouse.specs.Steps.{closed, frame}
 use Rattle.warehouse.specs.Stored.{IsStored, IsTreeOfTable, decoded_rows}
@@ -23,6 +24,7 @@ use Rattle.warehouse.specs.declared.cube.Cube.{Cube}
 use Rattle.warehouse.proofs.Counted.{classes-kept}
 use Rattle.warehouse.proofs.Growing.{cut-back}
 use Rattle.warehouse.proofs.States.{stored-next}
+use Rattle.warehouse.proofs.Touching.{images-touched}
 use Rattle.warehouse.proofs.Trees.{kept-back, kept-canonical, tree-from}
 use Rattle.warehouse.proofs.Values.{values-after}
 
@@ -126,12 +128,24 @@ module _ (schema : Layout) (cube cube0 cube1 : Cube) (is : IsStored schema cube.
 
   -- what is left of the tree in place is left of that before the batch, if it is kept
   pub kept-in-place : (changes : List (Change Text)) (cube2 : Cube) (from to : ℕ) → IsCommitted cube1 cube2
-      → IsInPlace (state_in schema cube0) changes cube1.dict.lists cube0.tree.now cube1.tree.now from to
-      → IsInPlace (state_in schema cube) changes cube2.dict.lists cube.tree.now cube2.tree.now from to
+      → IsInPlace (state_in schema cube0) changes cube1.dict.lists cube0.tree.now cube1.tree.now
+      (is_touched cube1.tree) from to
+      → IsInPlace (state_in schema cube) changes cube2.dict.lists cube.tree.now cube2.tree.now
+      (has_image cube2.tree.last) from to
   kept-in-place changes cube2 from to committed in_place =
-      subst (λ (d : TextLists). IsInPlace (state_in schema cube) changes d.lists cube.tree.now cube2.tree.now from to)
-      (sym committed.texts)
-      (subst (λ (t : Tree ℕ). IsInPlace (state_in schema cube) changes cube1.dict.lists cube.tree.now t from to)
+      let touched = has_image cube2.tree.last in
+      let imaged : IsInPlace (state_in schema cube0) changes cube1.dict.lists cube0.tree.now cube1.tree.now touched
+      from to =
+      record {
+        numbers = in_place.numbers;
+        apart = in_place.apart;
+        touches = λ k before now. images-touched cube.tree cube0.tree cube1.tree cube2.tree.last
+            (ap (λ (c : Cube). c.tree) opened) changed.of_tree committed.last k (in_place.touches k before now);
+        steps = in_place.steps;
+      } in
+      subst (λ (d : TextLists). IsInPlace (state_in schema cube) changes d.lists cube.tree.now cube2.tree.now touched
+      from to) (sym committed.texts)
+      (subst (λ (t : Tree ℕ). IsInPlace (state_in schema cube) changes cube1.dict.lists cube.tree.now t touched from to)
       (sym (ap (λ (a : Arena). a.now) committed.of_tree))
-      (subst (λ (c : Cube). IsInPlace (state_in schema c) changes cube1.dict.lists c.tree.now cube1.tree.now from to)
-      opened in_place))
+      (subst (λ (c : Cube). IsInPlace (state_in schema c) changes cube1.dict.lists c.tree.now cube1.tree.now touched
+      from to) opened imaged))

@@ -292,7 +292,7 @@ nodes-more measures rows left b d e before after old one two k c h node =
     two k c (one k c h (node-there measures rows d before now.0 c (old now.0 c now.1))) node
 
 module _ (P : Row ℕ → Type 0) (ids : List ℕ) (id : ℕ) where
-  all-gone : (rows : List (Row ℕ)) → All P (gone (ids ++ id ∷ []) rows) → All P (gone ids rows)
+  pub all-gone : (rows : List (Row ℕ)) → All P (gone (ids ++ id ∷ []) rows) → All P (gone ids rows)
   all-gone [] all = All-nil P
   all-gone (row ∷ rows) all = go (is_among row.id ids) refl (nat_eq id row.id) refl (all-gone rows)
     where
@@ -315,7 +315,7 @@ module _ (P : Row ℕ → Type 0) (ids : List ℕ) (id : ℕ) where
           let here : All P (gone (ids ++ id ∷ []) rows) = rw more at all in
           rw is (rest here)
 
-  here-gone : (rows : List (Row ℕ)) (r : Row ℕ) → row_with_id rows id ≡ Some r
+  pub here-gone : (rows : List (Row ℕ)) (r : Row ℕ) → row_with_id rows id ≡ Some r
       → All P (gone (ids ++ id ∷ []) rows) → P r
   here-gone [] r found all = let bad : None ≡ Some r = found in cc
   here-gone (row ∷ rows) r found all
@@ -348,7 +348,7 @@ module _ (P : Row ℕ → Type 0) (ids : List ℕ) (id : ℕ) where
           rest later here
 
 -- a row whose id isn't among those that went is where it was
-kept-row : (ids : List ℕ) (id : ℕ) (rows : List (Row ℕ)) → is_among id ids ≡ false
+pub kept-row : (ids : List ℕ) (id : ℕ) (rows : List (Row ℕ)) → is_among id ids ≡ false
     → row_with_id (kept ids rows) id ≡ row_with_id rows id
 kept-row ids id [] new = refl
 kept-row ids id (row ∷ rows) new = go (is_among row.id ids) refl (nat_eq row.id id) refl (kept-row ids id rows new)

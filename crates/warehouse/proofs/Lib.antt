@@ -19,6 +19,7 @@ mod Trees
 mod MovedClasses
 mod Wider
 mod Images
+mod Touching
 mod Batches
 mod Sizes
 pub mod CallerLemmas

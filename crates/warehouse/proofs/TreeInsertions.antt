@@ -235,7 +235,7 @@ none-costs t k n is = subst (λ (o : Option (Row ℕ)). n ≤ n + cost_of_insert
 pub between-none : (t : Places) (k : ℕ) → rows_between t k k ≡ []
 between-none t k = ap rows_in (drop_all k (take k t.places) (omega (arith, length-take k t.places)))
 
-between-more : (t : Places) (first k : ℕ) → first ≤ k → k < length t.places
+pub between-more : (t : Places) (first k : ℕ) → first ≤ k → k < length t.places
     → rows_between t first (k + 1) ≡ rows_between t first k ++ rows_at t k
 between-more t first k le lt =
     ap (λ (ps : List (Option (Row ℕ))). rows_in (drop first ps)) (take_more t.places k None lt)
@@ -254,12 +254,12 @@ before-between t first k le =
     (drop first (take k t.places)))
     ∙ ap rows_in (take-append-drop first (take k t.places))
 
-all-left : {X : Type 0} (P : X → Type 0) (xs ys : List X) → All P (xs ++ ys) → All P xs
+pub all-left : {X : Type 0} (P : X → Type 0) (xs ys : List X) → All P (xs ++ ys) → All P xs
 all-left P [] ys all = All-nil P
 all-left P (x ∷ xs) ys all
     = All-cons P x xs (All-head P x (xs ++ ys) all) (all-left P xs ys (All-tail P x (xs ++ ys) all))
 
-all-right : {X : Type 0} (P : X → Type 0) (xs ys : List X) → All P (xs ++ ys) → All P ys
+pub all-right : {X : Type 0} (P : X → Type 0) (xs ys : List X) → All P (xs ++ ys) → All P ys
 all-right P [] ys all = all
 all-right P (x ∷ xs) ys all = all-right P xs ys (All-tail P x (xs ++ ys) all)
 
@@ -390,6 +390,12 @@ module _ (rows : List (Row ℕ)) (t : Places) (first : ℕ) (before now : List (
       (subst (λ (rs : List (Row ℕ)). RowsAreCodes now rs) (rows-split t first) known')) distinct)
       ∙ ap (with_codes now) added
 
+  pub changed-rows : with_codes now (gone (deleted changes) (map (decoded_row before) rows) ++ inserted changes)
+      ≡ gone (deleted changes) rows ++ rows_from_place t first
+  changed-rows =
+      map-append (coded_row (place_in now)) (gone (deleted changes) (map (decoded_row before) rows)) (inserted changes)
+      ∙ ap₂ (λ (xs ys : List (Row ℕ)). xs ++ ys) (sym gone-rows) (sym later-rows)
+
   pub batch-numbers : (b d e : Tree ℕ) → KeepsNodes (kept (deleted changes) rows) b d → KeepsNumbers d e
       → KeepsNodes (with_codes now (kept (deleted changes) (map (decoded_row before) rows))) b e
   batch-numbers b d e one two =
@@ -401,10 +407,8 @@ module _ (rows : List (Row ℕ)) (t : Places) (first : ℕ) (before now : List (
       b e
   batch-apart b d e one two k n h all =
       let Apart : Row ℕ → Type 0 = λ row. leq nat_eq n.cell (cell_of row.tuple) ≡ false in
-      let both : All Apart (gone (deleted changes) rows ++ rows_from_place t first) =
-      subst (λ (rs : List (Row ℕ)). All Apart rs)
-      (map-append (coded_row (place_in now)) (gone (deleted changes) (map (decoded_row before) rows)) (inserted changes)
-      ∙ ap₂ (λ (xs ys : List (Row ℕ)). xs ++ ys) (sym gone-rows) (sym later-rows)) all in
+      let both : All Apart (gone (deleted changes) rows ++ rows_from_place t first)
+      = subst (λ (rs : List (Row ℕ)). All Apart rs) changed-rows all in
       two k n (one k n h (all-left Apart (gone (deleted changes) rows) (rows_from_place t first) both))
       (all-right Apart (gone (deleted changes) rows) (rows_from_place t first) both)
 

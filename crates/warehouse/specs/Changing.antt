@@ -1,22 +1,23 @@
 -- What an open batch begins with, what the changes of a file make of it, and what stays as it was.
-use Rattle.std.specs.Prelude.{ℕ, ◌≡◌, ◌≤◌, ◌+◌, ◌++◌, ◌∷◌, [], List, None, Some, IfSome, false, true, length, is_some}
+use Rattle.std.specs.Prelude.{ℕ, ◌≡◌, ◌≤◌, ◌+◌, ◌++◌, ◌∷◌, [], Bool, List, None, Some, IfSome, false, true, length, is_some}
+use Rattle.std.specs.Prelude.{if◌then◌else◌}
 use Rattle.std.specs.FinMap as finmap
 use Rattle.std.specs.FinSet as set
 use Rattle.std.specs.Ordering.{nat_cmp}
 use Rattle.base_table.specs.Places.{IsTable, Places, base_of, row_with_id, rows_of, without_id}
 use Rattle.csv_load.specs.Batch.{Batch, Change, IsBatch, deleted, inserted}
-use Rattle.cube_defs.specs.Cell.{Cell}
 use Rattle.cube_defs.specs.Rows.{Row}
 use Rattle.cube_defs.specs.Text.{Text}
-use Rattle.cube_defs.specs.Tree.{IsCanonical, Tree, cell_at, nodes}
+use Rattle.cube_defs.specs.Tree.{IsCanonical, Tree, nodes}
 use Rattle.measure_index.specs.Rankings.{Ranking}
 use Rattle.qc_arena.specs.Map as arena
-use Rattle.qc_arena.specs.Map.{Arena, is_open, overlaid, shape_of}
+use Rattle.qc_arena.specs.Map.{Arena, is_open, is_touched, overlaid, shape_of, was_at}
 use Rattle.qc_schema.specs.Schema.{Layout}
 use Rattle.value_dict.specs.TextLists.{IsDictionary, TextLists, cut}
 use Rattle.value_dict.specs.Decoded.{RowsAreCodes}
 use Rattle.warehouse.specs.Batch.{after, first_twice, refusal_of}
-use Rattle.warehouse.specs.InPlace.{KeepsOtherRecords, KeepsNodes, cost_in, cost_of_deletions, cost_without, gone, kept, with_codes}
+use Rattle.warehouse.specs.InPlace.{KeepsOtherRecords, KeepsNodes, KeepsNumbers, TouchesNoOthers, TouchesOnly, cost_in}
+use Rattle.warehouse.specs.InPlace.{cost_of_deletions, cost_without, gone, kept, with_codes}
 use Rattle.warehouse.specs.State.{Contents, IsIndexed, State}
 use Rattle.warehouse.specs.Steps.{AreLonger, HasPrefix, IsTreeBefore, closed, frame, last_refusal, rows_before}
 use Rattle.warehouse.specs.Stored.{IsStored, IsTreeOfTable, decoded_rows, state_of}
@@ -54,6 +55,7 @@ pub record IsBegun (schema : Layout) (cube : Cube) : Type 0 where
   pub stored : IsStored schema cube.dict (closed cube.table)
   pub rows_open : is_some cube.table.was ≡ true
   pub tree_open : is_open cube.tree ≡ true
+  pub untouched : cube.tree.touched ≡ set.empty
   pub width : cube.tree.width ≡ length schema.dims
   pub most_nodes : cube.tree.max ≡ schema.nodes
   pub canonical : IsCanonical nat_cmp cube.table.measures (rows_of cube.table) cube.tree.now
@@ -75,6 +77,8 @@ pub record IsCommitted (cube cube' : Cube) : Type 0 where
   pub of_tree : cube'.tree ≡ record cube.tree { was = None; touched = set.empty; last = cube'.tree.last }
   pub images : IfSome cube.tree.was (λ shape. shape.width ≡ cube.tree.width
       → overlaid cube'.tree.last cube'.tree.now ≡ shape.tree)
+  pub last : IfSome cube.tree.was (λ shape. shape.width ≡ cube.tree.width
+      → (q : ℕ) → finmap.get cube'.tree.last q ≡ (if is_touched cube.tree q then Some (was_at cube.tree q) else None))
 
 -- an open batch was taken back, and each dimension was cut to so many texts
 pub record IsRolledBack (lens : List ℕ) (cube cube' : Cube) : Type 0 where
@@ -98,13 +102,14 @@ pub record LeavesFrames (cube cube' : Cube) : Type 0 where
   pub of_tree : arena.frame cube'.tree ≡ arena.frame cube.tree
 
 -- the row of an id is gone, and the tree is that of the rows that are left
-pub record IsTakenOut (id : ℕ) (row : Row ℕ) (table table' : Places) (tree tree' : Tree ℕ) (from to : ℕ) : Type 0 where
+pub record IsTakenOut (id : ℕ) (row : Row ℕ) (table table' : Places) (tree tree' : Arena) (from to : ℕ) : Type 0 where
   pub rows : rows_of table' ≡ without_id (rows_of table) id
   pub fewer : length (nodes nat_cmp (rows_of table')) ≤ length (nodes nat_cmp (rows_of table))
-  pub canonical : IsCanonical nat_cmp table.measures (rows_of table') tree'
-  pub numbers : KeepsNodes (rows_of table') tree tree'
-  pub none_new : (k : ℕ) (c : Cell ℕ) → cell_at tree' k ≡ Some c → cell_at tree k ≡ Some c
-  pub apart : KeepsOtherRecords (row ∷ []) tree tree'
+  pub canonical : IsCanonical nat_cmp table.measures (rows_of table') tree'.now
+  pub numbers : KeepsNodes (rows_of table') tree.now tree'.now
+  pub none_new : KeepsNumbers tree'.now tree.now
+  pub apart : KeepsOtherRecords (row ∷ []) tree.now tree'.now
+  pub touches : TouchesOnly (row ∷ []) tree.now tree tree'
   pub steps : to ≤ from + cost_without table.dims (rows_of table) (row_with_id (rows_of table) id)
 
 -- the rows of the deletions are gone, and the tree is that of the rows that are left
@@ -115,6 +120,7 @@ pub record AreDeleted (changes : List (Change Text)) (table table' : Places) (tr
   pub fits : length (nodes nat_cmp (rows_of table')) ≤ tree.max
   pub numbers : KeepsNodes (rows_of table') tree.now tree'.now
   pub apart : KeepsOtherRecords (gone (deleted changes) (rows_of table)) tree.now tree'.now
+  pub touches : TouchesOnly (gone (deleted changes) (rows_of table)) tree.now tree tree'
   pub steps : to ≤ from + cost_of_deletions table.dims (rows_of table) (deleted changes)
 
 -- the rows and texts are changed, and the tree is that of the rows before a place, which are those that are left
@@ -127,6 +133,7 @@ pub record RowsAreMade (schema : Layout) (changes : List (Change Text)) (first :
   pub before : IsTreeBefore cube'.table cube'.tree first
   pub numbers : KeepsNodes (kept (deleted changes) (rows_of cube.table)) cube.tree.now cube'.tree.now
   pub apart : KeepsOtherRecords (gone (deleted changes) (rows_of cube.table)) cube.tree.now cube'.tree.now
+  pub touches : TouchesOnly (gone (deleted changes) (rows_of cube.table)) cube.tree.now cube.tree cube'.tree
   pub steps : to ≤ from + cost_of_deletions cube.table.dims (rows_of cube.table) (deleted changes)
 
 -- the changes are made, and the tree is that of the rows after them
@@ -137,11 +144,12 @@ pub record AreMade (schema : Layout) (changes : List (Change Text)) (cube cube' 
   pub fits : length (nodes nat_cmp (rows_of cube'.table)) ≤ schema.nodes
   pub known : RowsAreCodes cube'.dict.lists (rows_of cube'.table)
 
--- what the changes of a state leave of the tree where they are made in place, and what they cost
+-- what the changes of a state leave of the tree where they are made in place, what they touch, and what they cost
 pub record IsInPlace (s : State) (changes : List (Change Text)) (lists : List (List Text)) (tree tree' : Tree ℕ)
-    (from to : ℕ) : Type 0 where
+    (touched : ℕ → Bool) (from to : ℕ) : Type 0 where
   pub numbers : KeepsNodes (with_codes lists (kept (deleted changes) s.rows)) tree tree'
   pub apart : KeepsOtherRecords (with_codes lists (gone (deleted changes) s.rows ++ inserted changes)) tree tree'
+  pub touches : TouchesNoOthers (with_codes lists (gone (deleted changes) s.rows ++ inserted changes)) tree tree' touched
   pub steps : to ≤ from + cost_in s changes
 
 -- rows, texts and tree are as they were, and there are no before-images

@@ -1,6 +1,6 @@
 -- What a batch leaves of the tree as it was, and what it may cost.
 use Rattle.std.specs.Prelude.{ℕ, ◌+◌, ◌*◌, ◌^◌, ◌≡◌, ◌≤◌, IsOk, length, not, true, false, nat_eq, List, [], ◌∷◌, ◌++◌, filter, map, Option}
-use Rattle.std.specs.Prelude.{None, Some, Ok}
+use Rattle.std.specs.Prelude.{Bool, None, Some, Ok, is_some}
 use Rattle.std.specs.List.{All}
 use Rattle.std.specs.FinMap as finmap
 use Rattle.std.specs.Ordering.{nat_cmp, eq_by_cmp}
@@ -13,6 +13,7 @@ use Rattle.cube_defs.specs.Rows.{Row, is_node}
 use Rattle.cube_defs.specs.Text.{Text}
 use Rattle.cube_defs.specs.Tree.{Node, Tree, affected_size, cell_at}
 use Rattle.cube_laws.specs.Recoding.{coded_row}
+use Rattle.qc_arena.specs.Map.{Arena, ImageMap, is_touched}
 use Rattle.qc_schema.specs.Schema.{Layout}
 use Rattle.value_dict.specs.Decoded.{place_in}
 use Rattle.warehouse.specs.Batch.{Apply, is_among, result, texts_after}
@@ -40,6 +41,24 @@ abbrev pub KeepsOtherRecords : List (Row ℕ) → Tree ℕ → Tree ℕ → Type
 KeepsOtherRecords rows before now =
     (k : ℕ) (n : Node ℕ ℕ) → finmap.get before k ≡ Some n
     → All (λ row. leq nat_eq n.cell (cell_of row.tuple) ≡ false) rows → finmap.get now k ≡ Some n
+
+-- the node at a number, if there is one, generalizes none of these rows' tuples
+abbrev pub IsApart : List (Row ℕ) → Tree ℕ → ℕ → Type 0
+IsApart rows tree k = (c : Cell ℕ) → cell_at tree k ≡ Some c → All (λ row. leq nat_eq c (cell_of row.tuple) ≡ false) rows
+
+-- a number whose node, before and after, generalizes none of these rows' tuples isn't touched
+abbrev pub TouchesNoOthers : List (Row ℕ) → Tree ℕ → Tree ℕ → (ℕ → Bool) → Type 0
+TouchesNoOthers rows before now touched =
+    (k : ℕ) → IsApart rows before k → IsApart rows now k → touched k ≡ false
+
+-- between two states of an arena a number whose node in a tree generalizes none of these rows' tuples isn't touched
+abbrev pub TouchesOnly : List (Row ℕ) → Tree ℕ → Arena → Arena → Type 0
+TouchesOnly rows tree before now =
+    (k : ℕ) → IsApart rows tree k → is_touched before k ≡ false → is_touched now k ≡ false
+
+-- whether a number has an image
+abbrev pub has_image : ImageMap → ℕ → Bool
+has_image images k = is_some (finmap.get images k)
 
 -- the most steps for one row that comes or goes, by the nodes that generalize its tuple in the rows before and after
 abbrev pub cost_of_row : ℕ → List (Row ℕ) → List (Row ℕ) → Row ℕ → ℕ
@@ -94,6 +113,14 @@ LeavesOtherRecords before bytes now =
     (λ changes. KeepsOtherRecords
     (with_codes now.state.texts (gone (deleted changes) before.state.rows ++ inserted changes))
     before.tree now.tree)
+
+-- each number whose node, before and after, generalizes the tuple of no row that goes or comes has no before-image
+abbrev pub HasNoOtherImages : Contents → List ℕ → Contents → Type 0
+HasNoOtherImages before bytes now =
+    OfBatch before.state.schema bytes
+    (λ changes. TouchesNoOthers
+    (with_codes now.state.texts (gone (deleted changes) before.state.rows ++ inserted changes))
+    before.tree now.tree (has_image now.images))
 
 -- and no more steps are taken than a batch may cost, from one count of them to another
 abbrev pub IsWithinCost : State → List ℕ → ℕ → ℕ → Type 0

@@ -8,13 +8,13 @@ ghost use Rattle.class_builder.specs.Costs.{cost_of_building};
 ghost use Rattle.csv_load.specs.Batch.{change_at, id_of, inserted, is_deletion, row_of};
 ghost use Rattle.cube_defs.specs.Tree.{IsCanonical, nodes};
 ghost use Rattle.qc_arena.specs.Map as arena;
-ghost use Rattle.qc_arena.specs.Map.{is_open, overlaid};
+ghost use Rattle.qc_arena.specs.Map.{is_open, is_touched, overlaid};
 ghost use Rattle.qc_schema.specs.Schema.{IsLayout};
 ghost use Rattle.std.specs.Ordering.{nat_cmp};
 ghost use Rattle.warehouse.specs.Batch as batches;
 ghost use Rattle.warehouse.specs.Batch.{first_number, first_twice, full_dim, result_of, texts_after, with_tuple};
 ghost use Rattle.warehouse.specs.Changing.{AreAsBefore, AreFit, AreInserted, AreMade, AreParts, CanInsert, IsBegun, IsInPlace, LeavesFrames, OnlyAdds, RowsAreMade, contents_of, state_in};
-ghost use Rattle.warehouse.specs.InPlace.{KeepsOtherRecords, KeepsNumbers, cost_in, cost_of_insertions};
+ghost use Rattle.warehouse.specs.InPlace.{KeepsOtherRecords, KeepsNumbers, TouchesOnly, cost_in, cost_of_insertions, has_image};
 ghost use Rattle.warehouse.specs.Loading.{IsLoad, cost_of_tree};
 ghost use Rattle.warehouse.specs.State.{IsIndexed, State};
 ghost use Rattle.warehouse.specs.Steps.{IsCause, IsOver, IsTreeBefore, is_there, rows_before, rows_from_place};
@@ -255,6 +255,8 @@ fn make_tree<L: Ledger>(
     ensures numbers { building ≡ Building.InPlace → KeepsNumbers tree.old.now tree.new.now }
     ensures apart { building ≡ Building.InPlace →
         KeepsOtherRecords (rows_from_place table.now first) tree.old.now tree.new.now }
+    ensures touches { OnOk result (building ≡ Building.InPlace →
+        TouchesOnly (rows_from_place table.now first) tree.new.now tree.old tree.new) }
     ensures steps { OnOk result (building ≡ Building.InPlace → steps.new ≤ steps.old
         + cost_of_insertions table.now.dims (rows_before table.now first)
         (rows_from_place table.now first)) }
@@ -282,7 +284,7 @@ fn change_and_build<L: Ledger>(
     ensures made { OnOk result (AreMade schema.now batch.changes cube.old cube.new) }
     ensures in_place { OnOk result (building ≡ Building.InPlace →
         IsInPlace (state_in schema.now cube.old) batch.changes cube.new.dict.lists
-        cube.old.tree.now cube.new.tree.now steps.old steps.new) }
+        cube.old.tree.now cube.new.tree.now (is_touched cube.new.tree) steps.old steps.new) }
     ensures loaded { OnOk result
         (IsLoad building (state_in schema.now cube.old) batch.changes →
         steps.new ≤ steps.old + cost_of_building (length schema.now.dims) cube.new.tree.now) }
@@ -357,7 +359,7 @@ fn change_and_index<L: Ledger>(
     ensures made { OnOk result (AreMade schema.now batch.changes cube.old cube.new) }
     ensures in_place { OnOk result (building ≡ Building.InPlace →
         IsInPlace (state_in schema.now cube.old) batch.changes cube.new.dict.lists
-        cube.old.tree.now cube.new.tree.now steps.old steps.new) }
+        cube.old.tree.now cube.new.tree.now (is_touched cube.new.tree) steps.old steps.new) }
     ensures loaded { OnOk result
         (IsLoad building (state_in schema.now cube.old) batch.changes →
         steps.new ≤ steps.old + cost_of_tree (length schema.now.dims) cube.new.tree.now) }
@@ -398,7 +400,8 @@ pub(crate) fn make_changes<L: Ledger>(
         (contents_of schema.now cube.new index.new ≡ contents_of schema.now cube.old index.old) }
     ensures in_place { OnOk result (building ≡ Building.InPlace →
         IsInPlace (state_in schema.now cube.old) batch.changes cube.new.dict.lists
-        cube.old.tree.now cube.new.tree.now steps.old steps.new) }
+        cube.old.tree.now cube.new.tree.now (has_image cube.new.tree.last)
+        steps.old steps.new) }
     ensures loaded { OnOk result
         (IsLoad building (state_in schema.now cube.old) batch.changes →
         steps.new ≤ steps.old + cost_of_tree (length schema.now.dims) cube.new.tree.now) }

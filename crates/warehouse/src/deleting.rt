@@ -41,8 +41,7 @@ fn delete_id<L: Ledger>(
     requires tree { IsCanonical nat_cmp table.old.measures (rows_of table.old) tree.old.now }
     ensures there { IfOk result (λ there. there ≡ has_id (rows_of table.old) id) }
     ensures gone { IfOk result (λ there. there ≡ true →
-        IsTakenOut id deletion.r table.old table.new tree.old.now tree.new.now
-        steps.old steps.new) }
+        IsTakenOut id deletion.r table.old table.new tree.old tree.new steps.old steps.new) }
     ensures frame { frame table.new ≡ frame table.old }
     ensures tree_frame { arena.frame tree.new ≡ arena.frame tree.old }
 {

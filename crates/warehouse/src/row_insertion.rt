@@ -5,7 +5,7 @@ ghost use Rattle.cube_defs.specs.Tree.{IsCanonical, nodes};
 ghost use Rattle.qc_arena.specs.Map as arena;
 ghost use Rattle.qc_arena.specs.Map.{is_open};
 ghost use Rattle.std.specs.Ordering.{nat_cmp};
-ghost use Rattle.warehouse.specs.InPlace.{KeepsOtherRecords, KeepsNumbers, cost_of_insertions};
+ghost use Rattle.warehouse.specs.InPlace.{KeepsOtherRecords, KeepsNumbers, TouchesOnly, cost_of_insertions};
 ghost use Rattle.warehouse.specs.Steps.{IsTreeBefore, rows_at, rows_before, rows_from_place};
 
 use base_table::Table;
@@ -32,6 +32,7 @@ fn insert_in_tree_at<L: Ledger>(
         → tree.old.max < length (nodes nat_cmp (rows_before table.now (place + 1))) }
     ensures numbers { KeepsNumbers tree.old.now tree.new.now }
     ensures apart { KeepsOtherRecords (rows_at table.now place) tree.old.now tree.new.now }
+    ensures touches { TouchesOnly (rows_at table.now place) tree.new.now tree.old tree.new }
     ensures steps { OnOk result
         (steps.new ≤ steps.old + cost_of_insertions table.now.dims (rows_before table.now place)
         (rows_at table.now place)) }
@@ -68,6 +69,8 @@ pub(crate) fn insert_in_tree<L: Ledger>(
         → tree.old.max < length (nodes nat_cmp (rows_of table.now)) }
     ensures numbers { KeepsNumbers tree.old.now tree.new.now }
     ensures apart { KeepsOtherRecords (rows_from_place table.now first) tree.old.now tree.new.now }
+    ensures touches { OnOk result
+        (TouchesOnly (rows_from_place table.now first) tree.new.now tree.old tree.new) }
     ensures steps { OnOk result
         (steps.new ≤ steps.old + cost_of_insertions table.now.dims (rows_before table.now first)
         (rows_from_place table.now first)) }

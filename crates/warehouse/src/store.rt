@@ -16,7 +16,7 @@ ghost use Rattle.qc_arena.specs.Map.{overlaid};
 ghost use Rattle.warehouse.specs.Batch as batches;
 ghost use Rattle.warehouse.specs.Batch.{result_of};
 ghost use Rattle.warehouse.specs.Changing.{IsInPlace};
-ghost use Rattle.warehouse.specs.InPlace.{IsWithinCost, LeavesOtherRecords, LeavesNumbers, cost_in};
+ghost use Rattle.warehouse.specs.InPlace.{HasNoOtherImages, IsWithinCost, LeavesOtherRecords, LeavesNumbers, cost_in, has_image};
 ghost use Rattle.warehouse.specs.Loading.{IsLoad, cost_of_load};
 ghost use Rattle.warehouse.specs.State.{AreContents, State, coded_rows, empty, scale_in};
 ghost use Rattle.warehouse.specs.Stored.{IsStored, applied_in, decoded_rows, refusal_in, state_of};
@@ -285,7 +285,7 @@ impl Warehouse {
             (result_of self.old.state (Ok batch.changes)) }
         ensures in_place { OnOk result (building ≡ Building.InPlace →
             IsInPlace self.old.state batch.changes self.new.state.texts
-            self.old.tree self.new.tree steps.old steps.new) }
+            self.old.tree self.new.tree (has_image self.new.images) steps.old steps.new) }
         ensures loaded { OnOk result (IsLoad building self.old.state batch.changes →
             steps.new ≤ steps.old + cost_of_load self.new.state) }
         ensures valid { AreContents self.new }
@@ -332,7 +332,8 @@ impl Warehouse {
     /// Applies a batch: its deletions, and then its insertions in their order. It is applied whole,
     /// or refused and nothing changes. The tree is changed in place. Each node that the rows left
     /// after the deletions have too keeps its number. A node that generalizes the tuple of no
-    /// deleted or inserted row keeps its record.
+    /// deleted or inserted row keeps its record. A number has a before-image only if its node,
+    /// before or after, generalizes the tuple of a deleted or inserted row.
     pub fn apply<L: Ledger>(
         &mut self,
         bytes: &[u8],
@@ -343,6 +344,7 @@ impl Warehouse {
             (batches.result self.old.state batches.Apply bytes.now) }
         ensures numbers { OnOk result (LeavesNumbers self.old bytes.now self.new) }
         ensures apart { OnOk result (LeavesOtherRecords self.old bytes.now self.new) }
+        ensures touches { OnOk result (HasNoOtherImages self.old bytes.now self.new) }
         ensures steps { OnOk result (IsWithinCost self.old.state bytes.now steps.old steps.new) }
         ensures valid { AreContents self.new }
         ensures state { OnErr result (self.new.state ≡ self.old.state) }

@@ -1,19 +1,20 @@
-use Rattle.std.proofs.Common.{Err, List, ◌≡◌, ◌+◌, ◌<◌, ◌≤◌, ◌∙◌, ℕ, ap, length, subst, sym}
+use Rattle.std.proofs.Common.{Err, List, ◌≡◌, ◌+◌, ◌++◌, ◌<◌, ◌≤◌, ◌∙◌, ℕ, ap, length, subst, sym}
 use Rattle.std.specs.Ordering.{nat_cmp}
 use Rattle.base_table.specs.Places.{Places, rows_of}
-use Rattle.csv_load.specs.Batch.{deleted}
+use Rattle.csv_load.specs.Batch.{deleted, inserted}
 use Rattle.cube_defs.specs.Text.{Text}
 use Rattle.cube_defs.specs.Tree.{nodes}
 use Rattle.qc_arena.specs.Map.{Arena, is_open}
 use Rattle.warehouse.specs.Batch.{rows_after}
 use Rattle.warehouse.specs.Changing.{state_in}
-use Rattle.warehouse.specs.InPlace.{cost_of_insertions, cost_of_batch, cost_of_deletions}
+use Rattle.warehouse.specs.InPlace.{cost_of_insertions, cost_of_batch, cost_of_deletions, gone, with_codes}
 use Rattle.warehouse.specs.State.{State}
 use Rattle.warehouse.specs.Steps.{rows_before, rows_from_place}
 use Rattle.warehouse.specs.Stored.{decoded_rows}
 use Rattle.warehouse.proofs.Causes.{last-full, last-none}
 use Rattle.warehouse.proofs.Counted.{nodes-decoded}
-use Rattle.warehouse.proofs.TreeInsertions.{batch-apart, batch-numbers, batch-steps}
+use Rattle.warehouse.proofs.Touching.{touched-both}
+use Rattle.warehouse.proofs.TreeInsertions.{batch-apart, batch-numbers, batch-steps, changed-rows}
 use Rattle.warehouse.proofs.changing.change_and_build.Goals as goal
 
 pub returns-in-Ok-make_tree-clause-made : goal.returns-in-Ok-make_tree-clause-made
@@ -69,6 +70,13 @@ returns-in-Ok-make_tree-clause-in_place g c = λ in_place.
           frames.dictionary.distinct is.left rows
           c.args.cube.now.tree.now c.change_rows.new.cube.tree.now c.make_tree.new.tree.now is.apart
           (c.make_tree.ensures.apart in_place);
+      touches =
+          touched-both (gone (deleted c.args.batch.changes) (rows_of t)) (rows_from_place t' c.in-Ok.first)
+          (with_codes now (gone (deleted c.args.batch.changes) (decoded_rows lists t) ++ inserted c.args.batch.changes))
+          c.args.cube.now.tree c.change_rows.new.cube.tree c.make_tree.new.tree
+          (changed-rows (rows_of t) t' c.in-Ok.first lists now c.args.batch.changes frames.longer known is.known
+          frames.dictionary.distinct is.left rows)
+          c.requires.begun.untouched is.touches (c.in-Ok-make_tree.ensures.touches in_place);
       steps = subst (λ (ls : List (List Text)). end ≤ begun + cost_of_batch (length c.args.schema.now.dims) ls
           (decoded_rows lists t) c.args.batch.changes) (ap (λ (s : State). s.texts) is.made)
           (batch-steps (rows_of t) t' c.in-Ok.first lists now c.args.batch.changes frames.longer known is.known

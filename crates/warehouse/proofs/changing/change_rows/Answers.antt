@@ -202,5 +202,6 @@ returns-clause-made g c =
       numbers = subst (λ (rs : List (Row ℕ)). KeepsNodes rs c.args.cube.now.tree.now c.delete_rows.new.tree.now)
           deletes.rows deletes.numbers;
       apart = deletes.apart;
+      touches = deletes.touches;
       steps = deletes.steps;
     }

@@ -3,6 +3,7 @@ use Rattle.base_table.specs.Places.{Places, rows_of}
 use Rattle.cube_defs.specs.Cell.{cell_of}
 use Rattle.warehouse.proofs.Deletions.{apart-after, canonical-after, few-before, fewer-nodes, from-is, numbers-after, rest-of, steps-after}
 use Rattle.warehouse.proofs.Deletions.{tuple-is, tuple-long}
+use Rattle.warehouse.proofs.Touching.{touched-row}
 use Rattle.warehouse.proofs.deleting.delete_id.Goals as goal
 
 pub group-rest-requires : goal.group-rest-requires
@@ -61,6 +62,8 @@ returns-in-Ok-delete_row-clause-gone g c = λ _.
       numbers = numbers-after t c.args.id g.deletion is row t' rows u same b e c.in-Ok-delete_row.ensures.numbers;
       none_new = c.in-Ok-delete_row.ensures.none_new;
       apart = apart-after t c.args.id g.deletion is row t' rows u same b e c.delete_row.ensures.apart;
+      touches = touched-row g.deletion.r u b c.args.tree.now c.delete_row.new.arena same
+          c.in-Ok-delete_row.ensures.touched;
       steps = steps-after t c.args.id g.deletion is row t' rows u same c.args.steps.now c.delete_row.new.steps
           c.in-Ok-delete_row.ensures.steps;
     }

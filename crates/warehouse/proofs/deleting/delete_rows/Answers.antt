@@ -12,13 +12,14 @@ use Rattle.qc_arena.specs.Map as arena
 use Rattle.qc_arena.specs.Map.{Arena, is_open}
 use Rattle.warehouse.specs.Batch as batches
 use Rattle.warehouse.specs.Batch.{is_missing}
-use Rattle.warehouse.specs.InPlace.{KeepsOtherRecords, KeepsNodes, cost_of_deletions, cost_without, gone, kept}
+use Rattle.warehouse.specs.InPlace.{KeepsOtherRecords, KeepsNodes, KeepsNumbers, TouchesOnly, cost_of_deletions, cost_without, gone, kept}
 use Rattle.warehouse.specs.State.{ids_of}
 use Rattle.warehouse.specs.Steps.{frame}
 use Rattle.warehouse.proofs.Changes.{below-more, deletion-adds, deletion-missing, insertion-keeps, insertion-missing, new-deletion}
 use Rattle.warehouse.proofs.Changes.{number-here, number-none}
 use Rattle.warehouse.proofs.Deletions.{apart-gone, deletion-is, found-at, nodes-more, row_or, steps-going}
 use Rattle.warehouse.proofs.Rows.{kept-more, kept-none, missing-before, there-before}
+use Rattle.warehouse.proofs.Touching.{touched-gone}
 use Rattle.warehouse.proofs.deleting.delete_rows.Goals as goal
 use Rattle.warehouse.proofs.deleting.delete_rows.Goals.{then-is_delete+in-Ok-true, else-is_delete}
 
@@ -34,7 +35,9 @@ changes-init g c =
           same c.requires.tree;
       fits = subst (λ (rs : List (Row ℕ)). length (nodes nat_cmp rs) ≤ c.args.tree.now.max) same c.requires.few_nodes;
       numbers = λ k x h node. h;
+      none_new = λ k x h. h;
       apart = λ k n h all. h;
+      touches = λ k apart was. was;
       steps = omega arith;
       tree_frame = refl;
     }
@@ -149,6 +152,12 @@ changes-preserved g c =
                 (subst (λ (is : List ℕ). KeepsOtherRecords (gone is begun) b e) (sym adds)
                 (apart-gone ids id begun r b d e (new-deletion changes k c.requires.once lt is) found
                 inv.apart out.apart));
+            none_new = subst (λ (x : Tree ℕ). KeepsNumbers x b) now (λ q x h. inv.none_new q x (out.none_new q x h));
+            touches =
+                subst (λ (a : Arena). TouchesOnly (gone ids' begun) b c.args.tree.now a) (sym w.tree-is)
+                (subst (λ (is : List ℕ). TouchesOnly (gone is begun) b c.args.tree.now w.delete_id.new.tree) (sym adds)
+                (touched-gone ids id begun r c.args.tree.now c.changes.tree w.delete_id.new.tree
+                (new-deletion changes k c.requires.once lt is) found inv.none_new inv.touches out.touches));
             steps =
                 subst (λ (n : ℕ). n ≤ c.args.steps.now + cost_of_deletions t.dims begun ids') (sym w.steps-is)
                 (subst (λ (is : List ℕ). w.delete_id.new.steps ≤ c.args.steps.now + cost_of_deletions t.dims begun is)
@@ -177,6 +186,11 @@ changes-preserved g c =
             apart =
                 subst (λ (x : Tree ℕ). KeepsOtherRecords (gone ids' begun) b x) now
                 (subst (λ (is : List ℕ). KeepsOtherRecords (gone is begun) b c.changes.tree.now) same inv.apart);
+            none_new = subst (λ (x : Tree ℕ). KeepsNumbers x b) now inv.none_new;
+            touches =
+                subst (λ (a : Arena). TouchesOnly (gone ids' begun) b c.args.tree.now a) (sym w.tree-is)
+                (subst (λ (is : List ℕ). TouchesOnly (gone is begun) b c.args.tree.now c.changes.tree) same
+                inv.touches);
             steps =
                 subst (λ (n : ℕ). n ≤ c.args.steps.now + cost_of_deletions t.dims begun ids') (sym w.steps-is)
                 (subst (λ (is : List ℕ). c.changes.steps ≤ c.args.steps.now + cost_of_deletions t.dims begun is)
@@ -203,6 +217,8 @@ returns-clause-deleted g c =
       numbers = subst (λ (rs : List (Row ℕ)). KeepsNodes rs b c.changes.tree.now) (sym inv.rows) inv.numbers;
       apart = subst (λ (xs : List (Change Text)). KeepsOtherRecords
           (gone (deleted xs) (rows_of t)) b c.changes.tree.now) all inv.apart;
+      touches = subst (λ (xs : List (Change Text)). TouchesOnly (gone (deleted xs) (rows_of t)) b c.args.tree.now
+          c.changes.tree) all inv.touches;
       steps = subst (λ (xs : List (Change Text)). c.changes.steps ≤ c.args.steps.now + cost_of_deletions t.dims
           (rows_of t) (deleted xs)) all inv.steps;
     }

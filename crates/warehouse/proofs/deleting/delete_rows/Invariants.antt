@@ -5,7 +5,7 @@ use Rattle.csv_load.specs.Batch.{Delete, deleted}
 use Rattle.cube_defs.specs.Tree.{IsCanonical, nodes}
 use Rattle.qc_arena.specs.Map as arena
 use Rattle.warehouse.specs.Batch.{is_missing}
-use Rattle.warehouse.specs.InPlace.{KeepsOtherRecords, KeepsNodes, cost_of_deletions, gone, kept}
+use Rattle.warehouse.specs.InPlace.{KeepsOtherRecords, KeepsNodes, KeepsNumbers, TouchesOnly, cost_of_deletions, gone, kept}
 use Rattle.warehouse.specs.State.{ids_of}
 use Rattle.warehouse.specs.Steps.{frame}
 use Rattle.warehouse.proofs.Deletions.{deletion_of}
@@ -25,7 +25,9 @@ invariant-changes g l =
       canonical : IsCanonical nat_cmp l.initial.table.measures (kept ids begun) l.tree.now;
       fits : length (nodes nat_cmp (kept ids begun)) ≤ l.initial.tree.max;
       numbers : KeepsNodes (kept ids begun) l.initial.tree.now l.tree.now;
+      none_new : KeepsNumbers l.tree.now l.initial.tree.now;
       apart : KeepsOtherRecords (gone ids begun) l.initial.tree.now l.tree.now;
+      touches : TouchesOnly (gone ids begun) l.initial.tree.now l.initial.tree l.tree;
       steps : l.steps ≤ l.initial.steps + cost_of_deletions l.initial.table.dims begun ids;
       tree_frame : arena.frame l.tree ≡ arena.frame l.initial.tree;
     }

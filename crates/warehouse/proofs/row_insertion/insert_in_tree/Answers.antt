@@ -4,10 +4,11 @@ use Rattle.base_table.specs.Places.{rows_of}
 use Rattle.cube_defs.specs.Rows.{Row}
 use Rattle.cube_defs.specs.Tree.{IsCanonical, nodes}
 use Rattle.qc_arena.specs.Map.{Arena}
-use Rattle.warehouse.specs.InPlace.{KeepsOtherRecords, cost_of_insertions}
+use Rattle.warehouse.specs.InPlace.{KeepsOtherRecords, TouchesOnly, cost_of_insertions}
 use Rattle.warehouse.specs.Steps.{rows_before}
 use Rattle.warehouse.proofs.TreeInsertions.{apart-later, apart-more, apart-none, between-all, nodes-before, rows-whole, steps-more}
 use Rattle.warehouse.proofs.TreeInsertions.{steps-none}
+use Rattle.warehouse.proofs.Touching.{touched-more}
 use Rattle.warehouse.proofs.row_insertion.insert_in_tree.Goals as goal
 
 pub returns-in-Err-clause-full : goal.returns-in-Err-clause-full
@@ -39,6 +40,7 @@ rows-init g c = record {
   tree = c.requires.tree;
   numbers = λ k x h. h;
   apart = apart-none c.args.table.now c.args.first c.args.tree.now.now;
+  touches = λ k apart was. was;
   steps = steps-none c.args.table.now c.args.first c.args.steps.now;
   frame = refl;
 }
@@ -54,6 +56,8 @@ rows-preserved g c =
       numbers = λ k x h. c.insert_in_tree_at.ensures.numbers k x (inv.numbers k x h);
       apart = apart-more t c.args.first c.rows.place c.args.tree.now.now c.rows.tree.now
           c.insert_in_tree_at.new.tree.now inv.first lt inv.apart c.insert_in_tree_at.ensures.apart;
+      touches = touched-more t c.args.first c.rows.place c.args.tree.now c.rows.tree c.insert_in_tree_at.new.tree
+          inv.first lt c.insert_in_tree_at.ensures.numbers inv.touches c.insert_in_tree_at.ensures.touches;
       steps = steps-more t c.args.first c.rows.place c.args.steps.now c.rows.steps c.insert_in_tree_at.new.steps
           inv.first lt inv.steps c.in-Ok.ensures.steps;
       frame = c.insert_in_tree_at.ensures.frame ∙ inv.frame;
@@ -76,6 +80,13 @@ returns-clause-apart g c =
     let past : length t.places ≤ c.rows.place = omega (arith, c.rows-test.false, c.places-place-end.ensures.value) in
     subst (λ (rs : List (Row ℕ)). KeepsOtherRecords rs c.args.tree.now.now c.rows.tree.now)
     (between-all t c.args.first c.rows.place past) c.rows.invariant.apart
+
+pub returns-clause-touches : goal.returns-clause-touches
+returns-clause-touches g c =
+    let t = c.args.table.now in
+    let past : length t.places ≤ c.rows.place = omega (arith, c.rows-test.false, c.places-place-end.ensures.value) in
+    subst (λ (rs : List (Row ℕ)). TouchesOnly rs c.rows.tree.now c.args.tree.now c.rows.tree)
+    (between-all t c.args.first c.rows.place past) c.rows.invariant.touches
 
 pub returns-clause-steps : goal.returns-clause-steps
 returns-clause-steps g c =

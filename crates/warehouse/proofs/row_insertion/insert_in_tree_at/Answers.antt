@@ -2,6 +2,7 @@ use Rattle.std.proofs.Common.{ap}
 use Rattle.qc_arena.specs.Map.{Arena}
 use Rattle.warehouse.proofs.TreeInsertions.{full-at, none-came, none-costs, row-apart, row-came, row-costs, row-full, row-there}
 use Rattle.warehouse.proofs.TreeInsertions.{source-before}
+use Rattle.warehouse.proofs.Touching.{touched-place}
 use Rattle.warehouse.proofs.row_insertion.insert_in_tree_at.Goals as goal
 
 pub returns-in_default-clause-tree : goal.returns-in_default-clause-tree
@@ -68,3 +69,20 @@ returns-in-Ok-clause-steps g c =
     (row-there c.args.table.now c.args.place c.in-Some.row.0 c.tuple-tuple.result c.amounts.result.now
     c.in-Some.ensures.some.0 c.in-Some.ensures.some.1 c.tuple-tuple.ensures.value c.amounts.ensures.value)
     c.amounts.ensures.measures c.args.steps.now c.insert_row.new.steps c.in-Ok.ensures.steps c.tuple-tuple.ensures.dims
+
+pub returns-in_default-clause-touches : goal.returns-in_default-clause-touches
+returns-in_default-clause-touches g c = λ q apart was. was
+
+pub returns-in-Ok-clause-touches : goal.returns-in-Ok-clause-touches
+returns-in-Ok-clause-touches g c =
+    touched-place c.args.table.now c.args.place c.tuple-tuple.result c.amounts.result.now
+    (row-there c.args.table.now c.args.place c.in-Some.row.0 c.tuple-tuple.result c.amounts.result.now
+    c.in-Some.ensures.some.0 c.in-Some.ensures.some.1 c.tuple-tuple.ensures.value c.amounts.ensures.value)
+    c.args.tree.now c.insert_row.new.arena c.insert_row.ensures.touched
+
+pub returns-in-Err-clause-touches : goal.returns-in-Err-clause-touches
+returns-in-Err-clause-touches g c =
+    touched-place c.args.table.now c.args.place c.tuple-tuple.result c.amounts.result.now
+    (row-there c.args.table.now c.args.place c.in-Some.row.0 c.tuple-tuple.result c.amounts.result.now
+    c.in-Some.ensures.some.0 c.in-Some.ensures.some.1 c.tuple-tuple.ensures.value c.amounts.ensures.value)
+    c.args.tree.now c.insert_row.new.arena c.insert_row.ensures.touched

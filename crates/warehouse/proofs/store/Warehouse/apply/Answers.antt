@@ -7,7 +7,7 @@ use Rattle.csv_load.specs.Files.{batch_in}
 use Rattle.cube_defs.specs.Text.{Text}
 use Rattle.warehouse.specs.Batch.{result_of}
 use Rattle.warehouse.specs.declared.changing.Building.TheVariants.{InPlace}
-use Rattle.warehouse.specs.InPlace.{KeepsOtherRecords, KeepsNodes, cost_in, gone, kept, with_codes}
+use Rattle.warehouse.specs.InPlace.{KeepsOtherRecords, KeepsNodes, TouchesNoOthers, cost_in, gone, has_image, kept, with_codes}
 use Rattle.warehouse.specs.State.{Contents, State}
 use Rattle.warehouse.specs.Changing.{IsInPlace, state_in}
 use Rattle.warehouse.proofs.Deletions.{ok-then}
@@ -58,10 +58,10 @@ returns-in-Ok-clause-numbers g c =
     (ok-then c.make_changes.result
     (λ (made : InPlace ≡ InPlace
     → IsInPlace c.args.self.now.state changes lists c.args.self.now.tree c.make_changes.new.self.tree
-    c.args.steps.now c.make_changes.new.steps). (made refl).numbers)
+    (has_image c.make_changes.new.self.images) c.args.steps.now c.make_changes.new.steps). (made refl).numbers)
     (subst (λ (w : Contents). OnOk c.make_changes.result (InPlace ≡ InPlace
-    → IsInPlace w.state changes lists w.tree c.make_changes.new.self.tree c.args.steps.now
-    c.make_changes.new.steps)) c.drop_images.ensures.rest c.make_changes.ensures.in_place))
+    → IsInPlace w.state changes lists w.tree c.make_changes.new.self.tree
+    (has_image c.make_changes.new.self.images) c.args.steps.now c.make_changes.new.steps)) c.drop_images.ensures.rest c.make_changes.ensures.in_place))
 
 pub returns-in-Ok-clause-apart : goal.returns-in-Ok-clause-apart
 returns-in-Ok-clause-apart g c =
@@ -75,10 +75,27 @@ returns-in-Ok-clause-apart g c =
     (ok-then c.make_changes.result
     (λ (made : InPlace ≡ InPlace
     → IsInPlace c.args.self.now.state changes lists c.args.self.now.tree c.make_changes.new.self.tree
-    c.args.steps.now c.make_changes.new.steps). (made refl).apart)
+    (has_image c.make_changes.new.self.images) c.args.steps.now c.make_changes.new.steps). (made refl).apart)
     (subst (λ (w : Contents). OnOk c.make_changes.result (InPlace ≡ InPlace
-    → IsInPlace w.state changes lists w.tree c.make_changes.new.self.tree c.args.steps.now
-    c.make_changes.new.steps)) c.drop_images.ensures.rest c.make_changes.ensures.in_place))
+    → IsInPlace w.state changes lists w.tree c.make_changes.new.self.tree
+    (has_image c.make_changes.new.self.images) c.args.steps.now c.make_changes.new.steps)) c.drop_images.ensures.rest c.make_changes.ensures.in_place))
+
+pub returns-in-Ok-clause-touches : goal.returns-in-Ok-clause-touches
+returns-in-Ok-clause-touches g c =
+    let state = ap (λ (w : Contents). w.state) (c.self.view_is ∙ c.drop_images.ensures.rest) in
+    let changes = c.in-Ok.batch.changes in
+    let lists = c.make_changes.new.self.state.texts in
+    of-batch c.make_changes.result c.args.self.now.state.schema c.args.bytes.now changes
+    (λ xs. TouchesNoOthers (with_codes lists (gone (deleted xs) c.args.self.now.state.rows ++ inserted xs))
+    c.args.self.now.tree c.make_changes.new.self.tree (has_image c.make_changes.new.self.images))
+    (subst (λ (s : State). batch_in s.schema c.args.bytes.now ≡ Ok changes) state c.in-Ok.ensures.gives)
+    (ok-then c.make_changes.result
+    (λ (made : InPlace ≡ InPlace
+    → IsInPlace c.args.self.now.state changes lists c.args.self.now.tree c.make_changes.new.self.tree
+    (has_image c.make_changes.new.self.images) c.args.steps.now c.make_changes.new.steps). (made refl).touches)
+    (subst (λ (w : Contents). OnOk c.make_changes.result (InPlace ≡ InPlace
+    → IsInPlace w.state changes lists w.tree c.make_changes.new.self.tree
+    (has_image c.make_changes.new.self.images) c.args.steps.now c.make_changes.new.steps)) c.drop_images.ensures.rest c.make_changes.ensures.in_place))
 
 pub returns-in-Ok-clause-steps : goal.returns-in-Ok-clause-steps
 returns-in-Ok-clause-steps g c =
@@ -91,10 +108,10 @@ returns-in-Ok-clause-steps g c =
     (ok-then c.make_changes.result
     (λ (made : InPlace ≡ InPlace
     → IsInPlace c.args.self.now.state changes lists c.args.self.now.tree c.make_changes.new.self.tree
-    c.args.steps.now c.make_changes.new.steps). (made refl).steps)
+    (has_image c.make_changes.new.self.images) c.args.steps.now c.make_changes.new.steps). (made refl).steps)
     (subst (λ (w : Contents). OnOk c.make_changes.result (InPlace ≡ InPlace
-    → IsInPlace w.state changes lists w.tree c.make_changes.new.self.tree c.args.steps.now
-    c.make_changes.new.steps)) c.drop_images.ensures.rest c.make_changes.ensures.in_place))
+    → IsInPlace w.state changes lists w.tree c.make_changes.new.self.tree
+    (has_image c.make_changes.new.self.images) c.args.steps.now c.make_changes.new.steps)) c.drop_images.ensures.rest c.make_changes.ensures.in_place))
 
 pub returns-in-Ok-clause-state : goal.returns-in-Ok-clause-state
 returns-in-Ok-clause-state g c =
