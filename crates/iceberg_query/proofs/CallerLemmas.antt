@@ -6,4 +6,5 @@ pub use Rattle.iceberg_query.proofs.Sorted.{among_permutation, flips, once_permu
 pub use Rattle.iceberg_query.proofs.Index.{class_same}
 pub use Rattle.iceberg_query.proofs.Walked.{below_more, from_edge, target_there}
 pub use Rattle.iceberg_query.proofs.Reached.{below_begins}
+pub use Rattle.iceberg_query.proofs.WalkCosts.{each_once, edges_are}
 pub use Rattle.iceberg_query.proofs.DistinctClasses.{all_below, below_once}

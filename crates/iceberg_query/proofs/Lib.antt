@@ -1,4 +1,5 @@
 pub mod Walked
+pub mod WalkCosts
 pub mod Measures
 pub mod Measured
 pub mod Reached

@@ -1,4 +1,5 @@
 // The answer to an iceberg query.
+ghost use Rattle.std.specs.Ordering.{nat_cmp};
 ghost use Rattle.std.specs.Prelude.{All, IfOk, IfSome, IsSome, length, ◌*◌, ◌+◌, ◌^◌, ◌≡◌, ◌≤◌};
 ghost use Rattle.cube_defs.specs.Answers as answers;
 ghost use Rattle.cube_defs.specs.Text.{text_cmp};
@@ -11,6 +12,7 @@ ghost use Rattle.value_dict.specs.Decoded.{IsDecodableClass};
 ghost use Rattle.measure_index.specs.Index.{ranking_of};
 ghost use Rattle.measure_index.specs.Rankings.{IsIndex};
 ghost use Rattle.iceberg_query.specs.Asked.{HasMeasure, ask_in};
+ghost use Rattle.iceberg_query.specs.Costs.{tree_size};
 ghost use Rattle.iceberg_query.specs.Subtree.{numbers};
 ghost use Rattle.iceberg_query.specs.Hits.{decoded_classes};
 ghost use Rattle.iceberg_query.specs.Indexed.{class_of_node};
@@ -75,8 +77,12 @@ fn picked<T: Nodes, L: Ledger>(
     selection: &Selection<T>,
     steps: &mut Steps<L>,
 ) -> Result<Vec<NodeNo>, Memory>
-    ensures { IfOk result (λ nodes. ArePicked selection.now.tree.now.tree selection.now.ask.now
+    ensures picked { IfOk result
+        (λ nodes. ArePicked selection.now.tree.now.tree selection.now.ask.now
         (numbers nodes.items)) }
+    ensures steps { (source : TreeRows) →
+        IsTreeOf selection.now.tree.now.width selection.now.tree.now.tree source →
+        IfOk result (λ _. steps.new ≤ steps.old + (2 * tree_size nat_cmp source.rows + 1)) }
 {
     let mut nodes = Vec::new(alloc);
     let tree = selection.tree;
@@ -105,6 +111,9 @@ fn nodes_of<T: Nodes, L: Ledger>(
         (numbers nodes.items)) }
     ensures steps { IsSome (ranking_of selection.now.ask.now.kind index.now)
         → steps.new ≡ steps.old }
+    ensures walked { (source : TreeRows) →
+        IsTreeOf selection.now.tree.now.width selection.now.tree.now.tree source →
+        IfOk result (λ _. steps.new ≤ steps.old + (2 * tree_size nat_cmp source.rows + 1)) }
 {
     if index.has(selection.ask.kind) {
         indexed_nodes(alloc, index, selection.ask)
@@ -119,7 +128,7 @@ fn nodes_of<T: Nodes, L: Ledger>(
 /// If the index has the kind, it reads the index up to the first entry that doesn't pass. Of the
 /// tree it then reads only the answer's classes: with n dimensions at most 32 (n + 1)^2 2^n steps
 /// for each. Else it walks down the tree, and skips the descendants of a class if no part of its
-/// rows can pass.
+/// rows can pass. The walk takes at most two steps for each node and edge of the tree, and one.
 pub fn iceberg<T: Nodes, L: Ledger>(
     alloc: Global,
     tree: &T,
@@ -146,6 +155,10 @@ pub fn iceberg<T: Nodes, L: Ledger>(
     ensures steps { IsSome (ranking_of ask.now.kind index.now) →
         IfOk result (λ classes. steps.new ≤ steps.old
         + length classes.items * (32 * (T.width tree.now + 1) ^ 2 * 2 ^ T.width tree.now)) }
+    ensures walked { (source : TreeRows) → IsTreeOf (T.width tree.now) (T.tree tree.now) source →
+        IfOk result (λ classes. steps.new ≤ steps.old
+        + (length classes.items * (32 * (T.width tree.now + 1) ^ 2 * 2 ^ T.width tree.now)
+        + (2 * tree_size nat_cmp source.rows + 1))) }
 {
     let _dims = dict.dims();
     let tree = CanonicalTree::of(tree);

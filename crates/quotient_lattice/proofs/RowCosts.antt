@@ -1,85 +1,52 @@
 -- What is counted at the nodes of a tree is what its rows say.
 use Rattle.std.proofs.Common.{◌≡◌, ◌≤◌, ◌<◌, ◌+◌, ℕ, zero, suc, Option, Some, None, List, [], ◌∷◌, ◌++◌, map, length, take, get_or}
-use Rattle.std.proofs.Common.{nat_eq, true≢false, eq-eqb, refl, sym, ap, ap₂, subst, ◌∙◌, arith}
+use Rattle.std.proofs.Common.{nat_eq, refl, sym, ap, ap₂, subst, ◌∙◌, arith}
 use Rattle.std.specs.Prelude.{IsSome}
 use Rattle.std.specs.Cmp.{nat_cmp_total}
 use Rattle.std.specs.FinMap as numbers
 use Rattle.std.specs.List.{IsDistinct, sum_by}
 use Rattle.std.specs.Option.{option_map, option_map_or}
 use Rattle.std.specs.Ordering.{nat_cmp, eq_by_cmp}
-use Rattle.std.proofs.lemmas.List.{length-map}
 use Rattle.std.proofs.lemmas.List.Sums.{sum_by-append, sum_by-cons, sum_by_more_le}
 use Rattle.cube_defs.specs.Cell.{Cell, leq}
 use Rattle.cube_defs.specs.Rows.{closure}
-use Rattle.cube_defs.specs.Tree.{Node, Tree, cell_at, classes, node_of, parent_cell_of, renamed, renamed_edge}
+use Rattle.cube_defs.specs.Tree.{Tree, cell_at, classes, parent_cell_of, renamed}
 use Rattle.cube_laws.specs.Lists.{Among}
 use Rattle.cube_laws.specs.Parts.{value_count}
-use Rattle.cube_laws.proofs.CallerLemmas.{all_at, among_filter, among_map, classes-is}
+use Rattle.cube_laws.proofs.CallerLemmas.{among_filter, among_map, classes-is}
 use Rattle.tree_laws.specs.Labels.{record_of}
-use Rattle.tree_laws.proofs.CallerLemmas.{EachOnce, once_map, some_same, sum_alike, sum_by-map, sum_within, there}
+use Rattle.tree_laws.proofs.CallerLemmas.{once_map, some_same, sum_alike, sum_by-map, sum_within, there}
 use Rattle.qc_arena.specs.RecordReaders.{record_at}
 use Rattle.tree_search.specs.Found.{IsTreeOf, TreeRows}
 use Rattle.tree_search.proofs.CallerLemmas.{cell_of, cell_there, there_is}
+use Rattle.iceberg_query.proofs.CallerLemmas.{each_once, edges_are}
 use Rattle.quotient_lattice.specs.Candidates.{edges_on_way, edges_up}
-use Rattle.quotient_lattice.specs.Costs.{classes_from, edges_above, edges_at, edges_to, size_from}
+use Rattle.quotient_lattice.specs.Costs.{classes_from, edges_above, edges_to, size_from}
 use Rattle.quotient_lattice.specs.NodeCells.{IsPassing}
-
--- no number twice
-each_once : (xs : List ℕ) → IsDistinct nat_eq xs → EachOnce xs
-unfolding IsDistinct
-each_once [] h = tt
-each_once (x ∷ xs) h = (
-  λ m. true≢false (sym (eq-eqb x x refl) ∙ all_at (λ y. nat_eq x y ≡ _) x xs h.0 m),
-  each_once xs h.1,
-)
 
 module _ (dims : ℕ) (tree : Tree ℕ) (source : TreeRows) (h : IsTreeOf dims tree source) where
   abbrev cell : ℕ → Cell ℕ
   cell k = (record_at tree k).cell
 
-  -- a node's record has as many edges as the rows say, and its parent has the cell that they say
-  record IsRead (k : ℕ) : Type 0 where
-    edges : length (record_at tree k).edges ≡ edges_at nat_cmp source.rows (cell k)
-    parent : option_map (cell_at tree) (record_at tree k).parent
-        ≡ option_map (λ c. Some c) (parent_cell_of nat_cmp (cell k))
-
-  is_read : (k : ℕ) → IsSome (numbers.get tree k) → IsRead k
-  is_read k t = record {
-    edges = edges (closure (eq_by_cmp nat_cmp) source.rows (cell k)) is;
-    parent = parent (closure (eq_by_cmp nat_cmp) source.rows (cell k)) is;
-  }
+  -- a node's parent has the cell that the rows say
+  parent_is : (k : ℕ) → IsSome (numbers.get tree k) → option_map (cell_at tree) (record_at tree k).parent
+      ≡ option_map (λ c. Some c) (parent_cell_of nat_cmp (cell k))
+  parent_is k t = by (closure (eq_by_cmp nat_cmp) source.rows (cell k))
+      (h.canonical.each k (record_at tree k) (there_is tree k t)).1
     where
-      n : Node ℕ ℕ
-      n = record_at tree k
-
-      is : Some (renamed (cell_at tree) (record_at tree k))
-          ≡ option_map (renamed (λ c. Some c)) (node_of nat_cmp source.measures source.rows (cell k))
-      is = (h.canonical.each k (record_at tree k) (there_is tree k t)).1
-
-      edges : (o : Option (Cell ℕ)) → Some (renamed (cell_at tree) (record_at tree k))
-          ≡ option_map (renamed (λ c. Some c))
-          (option_map (λ u. record_of nat_cmp source.measures source.rows (cell k) u) o)
-          → length (record_at tree k).edges
-          ≡ option_map_or (λ m. length m.edges) (option_map (λ u. record_of nat_cmp 0 source.rows (cell k) u) o) 0
-      edges None e = cc
-      edges (Some u) e =
-          sym (length-map (record_at tree k).edges (renamed_edge (cell_at tree)))
-          ∙ ap (λ m. length m.edges) (some_same e)
-          ∙ length-map (record_of nat_cmp source.measures source.rows (cell k) u).edges (renamed_edge (λ c. Some c))
-
-      parent : (o : Option (Cell ℕ)) → Some (renamed (cell_at tree) (record_at tree k))
+      by : (o : Option (Cell ℕ)) → Some (renamed (cell_at tree) (record_at tree k))
           ≡ option_map (renamed (λ c. Some c))
           (option_map (λ u. record_of nat_cmp source.measures source.rows (cell k) u) o)
           → option_map (cell_at tree) (record_at tree k).parent
           ≡ option_map (λ c. Some c) (parent_cell_of nat_cmp (cell k))
-      parent None e = cc
-      parent (Some u) e = ap (λ m. m.parent) (some_same e)
+      by None e = cc
+      by (Some u) e = ap (λ m. m.parent) (some_same e)
 
   -- the edges at a node and at so many of its ancestors
   above_is : (n k : ℕ) → IsSome (numbers.get tree k) → edges_up tree n k ≡ edges_above nat_cmp source.rows n (cell k)
-  above_is zero k t = (is_read k t).edges
-  above_is (suc n) k t = ap₂ (λ a b. a + b) (is_read k t).edges
-      (go (λ j s. above_is n j s) (record_at tree k).parent (parent_cell_of nat_cmp (cell k)) (is_read k t).parent)
+  above_is zero k t = edges_are dims tree source h k t
+  above_is (suc n) k t = ap₂ (λ a b. a + b) (edges_are dims tree source h k t)
+      (go (λ j s. above_is n j s) (record_at tree k).parent (parent_cell_of nat_cmp (cell k)) (parent_is k t))
     where
       go : ((j : ℕ) → IsSome (numbers.get tree j) → edges_up tree n j ≡ edges_above nat_cmp source.rows n (cell j))
           → (o : Option ℕ) (q : Option (Cell ℕ)) → option_map (cell_at tree) o ≡ option_map (λ c. Some c) q
