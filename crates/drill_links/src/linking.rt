@@ -24,6 +24,7 @@ pub fn link_all<L: Ledger>(
     ensures tree { OnOk result
         (IsCanonical nat_cmp table.now.measures (rows_of table.now) arena.new.now) }
     ensures frame { frame arena.new ≡ frame arena.old }
+    ensures steps { steps.new ≡ steps.old }
 {
     Ok(())
 }
