@@ -4,6 +4,7 @@ pub mod Stored
 pub mod InPlace
 pub mod Steps
 pub mod Widening
+pub mod Loading
 pub mod ClassMoves
 pub mod NodeLists
 pub mod Counted

@@ -4,6 +4,7 @@ ghost use Rattle.std.specs.FinMap as finmap;
 ghost use Rattle.std.specs.Prelude.{Err, IfErr, IfOk, IfSome, None, Ok, OnErr, OnOk, Some, [], false, length, option_map, true, ◌+◌, ◌<◌, ◌∷◌, ◌≡◌, ◌≤◌};
 ghost use Rattle.base_table.specs.Places.{has_id, rows_of};
 ghost use Rattle.cell_core.specs.Gives.{Gives};
+ghost use Rattle.class_builder.specs.Costs.{cost_of_building};
 ghost use Rattle.csv_load.specs.Batch.{change_at, id_of, inserted, is_deletion, row_of};
 ghost use Rattle.cube_defs.specs.Tree.{IsCanonical, nodes};
 ghost use Rattle.qc_arena.specs.Map as arena;
@@ -14,6 +15,7 @@ ghost use Rattle.warehouse.specs.Batch as batches;
 ghost use Rattle.warehouse.specs.Batch.{first_number, first_twice, full_dim, result_of, texts_after, with_tuple};
 ghost use Rattle.warehouse.specs.Changing.{AreAsBefore, AreFit, AreInserted, AreMade, AreParts, CanInsert, IsBegun, IsInPlace, LeavesFrames, OnlyAdds, RowsAreMade, contents_of, state_in};
 ghost use Rattle.warehouse.specs.InPlace.{KeepsOtherRecords, KeepsNumbers, cost_in, cost_of_insertions};
+ghost use Rattle.warehouse.specs.Loading.{IsLoad, cost_of_tree};
 ghost use Rattle.warehouse.specs.State.{IsIndexed, State};
 ghost use Rattle.warehouse.specs.Steps.{IsCause, IsOver, IsTreeBefore, is_there, rows_before, rows_from_place};
 ghost use Rattle.warehouse.specs.Stored.{IsTreeOfTable, IsStored, IsTreeOfSome, applied_in, refusal_in};
@@ -187,6 +189,19 @@ fn change_rows<L: Ledger>(
     Ok(first)
 }
 
+// Removes all nodes, if there are any.
+fn remove_nodes<L: Ledger>(tree: &mut QcArena, steps: &mut Steps<L>) -> Result<(), Memory>
+    requires { is_open tree.old ≡ true }
+    ensures none { OnOk result (tree.new.now ≡ finmap.empty) }
+    ensures frame { arena.frame tree.new ≡ arena.frame tree.old }
+    ensures steps { tree.old.now ≡ finmap.empty → steps.new ≡ steps.old }
+{
+    if tree.live() == 0 {
+        return Ok(());
+    }
+    tree.clear(steps)
+}
+
 /// Builds the tree of the table's rows from scratch. After a refusal nothing is known of the tree.
 pub(crate) fn rebuild<L: Ledger>(
     table: &Table,
@@ -202,8 +217,10 @@ pub(crate) fn rebuild<L: Ledger>(
     ensures full { result ≡ Err ArenaRefused.Full
         → tree.old.max < length (nodes nat_cmp (rows_of table.now)) }
     ensures frame { arena.frame tree.new ≡ arena.frame tree.old }
+    ensures steps { OnOk result (tree.old.now ≡ finmap.empty →
+        steps.new ≤ steps.old + cost_of_building table.now.dims tree.new.now) }
 {
-    match tree.clear(steps) {
+    match remove_nodes(tree, steps) {
         Ok(()) => {}
         Err(_) => return Err(ArenaRefused::Memory),
     }
@@ -241,6 +258,8 @@ fn make_tree<L: Ledger>(
     ensures steps { OnOk result (building ≡ Building.InPlace → steps.new ≤ steps.old
         + cost_of_insertions table.now.dims (rows_before table.now first)
         (rows_from_place table.now first)) }
+    ensures scratch { OnOk result (building ≡ Building.FromScratch → tree.old.now ≡ finmap.empty →
+        steps.new ≤ steps.old + cost_of_building table.now.dims tree.new.now) }
     ensures frame { arena.frame tree.new ≡ arena.frame tree.old }
 {
     match building {
@@ -264,6 +283,9 @@ fn change_and_build<L: Ledger>(
     ensures in_place { OnOk result (building ≡ Building.InPlace →
         IsInPlace (state_in schema.now cube.old) batch.changes cube.new.dict.lists
         cube.old.tree.now cube.new.tree.now steps.old steps.new) }
+    ensures loaded { OnOk result
+        (IsLoad building (state_in schema.now cube.old) batch.changes →
+        steps.new ≤ steps.old + cost_of_building (length schema.now.dims) cube.new.tree.now) }
     ensures cause { IfErr result (λ refused.
         IsCause refused (state_in schema.now cube.old) batch.changes) }
     ensures frames { LeavesFrames cube.old cube.new }
@@ -309,6 +331,8 @@ fn make_index<L: Ledger>(
     ensures indexed { OnOk result (IsIndexed schema.now tree.now.now index.new) }
     ensures err { OnErr result (index.new ≡ index.old) }
     ensures steps { building ≡ Building.InPlace → steps.new ≡ steps.old }
+    ensures scratch { building ≡ Building.FromScratch →
+        steps.new ≤ steps.old + finmap.len tree.now.now }
 {
     match building {
         Building::InPlace => change_index(schema, tree, index, alloc),
@@ -334,6 +358,9 @@ fn change_and_index<L: Ledger>(
     ensures in_place { OnOk result (building ≡ Building.InPlace →
         IsInPlace (state_in schema.now cube.old) batch.changes cube.new.dict.lists
         cube.old.tree.now cube.new.tree.now steps.old steps.new) }
+    ensures loaded { OnOk result
+        (IsLoad building (state_in schema.now cube.old) batch.changes →
+        steps.new ≤ steps.old + cost_of_tree (length schema.now.dims) cube.new.tree.now) }
     ensures cause { IfErr result (λ refused.
         IsCause refused (state_in schema.now cube.old) batch.changes) }
     ensures frames { LeavesFrames cube.old cube.new }
@@ -372,6 +399,9 @@ pub(crate) fn make_changes<L: Ledger>(
     ensures in_place { OnOk result (building ≡ Building.InPlace →
         IsInPlace (state_in schema.now cube.old) batch.changes cube.new.dict.lists
         cube.old.tree.now cube.new.tree.now steps.old steps.new) }
+    ensures loaded { OnOk result
+        (IsLoad building (state_in schema.now cube.old) batch.changes →
+        steps.new ≤ steps.old + cost_of_tree (length schema.now.dims) cube.new.tree.now) }
     ensures parts { AreParts schema.now cube.new index.new }
     ensures images { OnOk result (overlaid cube.new.tree.last cube.new.tree.now
         ≡ cube.old.tree.now) }

@@ -1,10 +1,11 @@
 // The index of the tree's classes: it is made for a schema, and changed with a batch.
 ghost use Rattle.std.specs.FinMap as finmap;
-ghost use Rattle.std.specs.Prelude.{All, IfOk, IfSome, List, MatchOption, OnErr, OnOk, [], length, map, take, true, ◌+◌, ◌++◌, ◌∷◌, ◌≡◌, ◌≤◌};
-ghost use Rattle.aggregates.specs.Views.{IsThere};
+ghost use Rattle.std.specs.Prelude.{All, IfOk, IfSome, List, MatchOption, OnErr, OnOk, [], false, length, map, option_map, take, true, ◌+◌, ◌++◌, ◌∷◌, ◌≡◌, ◌≤◌};
+ghost use Rattle.aggregates.specs.Views.{IsThere, agg_in};
 ghost use Rattle.aggregates.specs.declared.agg.Agg as aggs;
 ghost use Rattle.cell_core.specs.declared.cell.NodeNo as numbers;
 ghost use Rattle.measure_index.specs.Builder.{AreKeysOf, gathered_units};
+ghost use Rattle.qc_arena.specs.Changes.{class_now};
 ghost use Rattle.qc_arena.specs.Map.{is_open};
 ghost use Rattle.qc_schema.specs.Schema.{IsLayout};
 ghost use Rattle.iceberg_query.specs.Subtree.{numbers as numbers_of};
@@ -74,8 +75,19 @@ fn new_filling(alloc: Global, schema: &Schema, tree: &QcArena) -> Result<IndexBu
     IndexBuilder::new(alloc, schema.indexes(), &all[..count], room)
 }
 
-// The index of the tree's classes, found at all numbers, also at those without a node. No bound is
-// known for its steps.
+// The aggregate of the class with a number. A step is taken only where there is a node.
+fn class_of_number<L: Ledger>(tree: &QcArena, number: u32, steps: &mut Steps<L>) -> Option<Agg>
+    ensures value { option_map agg_in result ≡ class_now tree.now number }
+    ensures steps { steps.new ≤ steps.old + 1 }
+    ensures none { finmap.contains_key tree.now.now number ≡ false → steps.new ≡ steps.old }
+{
+    if !tree.has(NodeNo(number)) {
+        return None;
+    }
+    tree.class_at(number, steps)
+}
+
+// The index of the tree's classes, found at all numbers. Numbers without a node are passed over.
 fn filled_index<L: Ledger>(
     alloc: Global,
     schema: &Schema,
@@ -84,12 +96,13 @@ fn filled_index<L: Ledger>(
 ) -> Result<Index, Memory>
     requires layout { IsLayout schema.now }
     requires tree { IsTreeOfSome schema.now tree.now.now }
-    ensures { IfOk result (λ index. IsIndexed schema.now tree.now.now index) }
+    ensures index { IfOk result (λ index. IsIndexed schema.now tree.now.now index) }
+    ensures steps { steps.new ≤ steps.old + finmap.len tree.now.now }
 {
     let mut filling = new_filling(alloc, schema, tree)?;
     let numbers = tree.numbers()?;
     'numbers: for number in 0..numbers {
-        push_class(&mut filling, number, &tree.class_at(number, steps))?;
+        push_class(&mut filling, number, &class_of_number(tree, number, steps))?;
     }
     filling.finish()
 }
@@ -139,6 +152,7 @@ pub(crate) fn build_index<L: Ledger>(
     requires now { IsTreeOfSome schema.now tree.now.now }
     ensures indexed { OnOk result (IsIndexed schema.now tree.now.now index.new) }
     ensures err { OnErr result (index.new ≡ index.old) }
+    ensures steps { steps.new ≤ steps.old + finmap.len tree.now.now }
 {
     if schema.indexes().is_empty() {
         return Ok(());

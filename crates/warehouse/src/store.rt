@@ -17,6 +17,7 @@ ghost use Rattle.warehouse.specs.Batch as batches;
 ghost use Rattle.warehouse.specs.Batch.{result_of};
 ghost use Rattle.warehouse.specs.Changing.{IsInPlace};
 ghost use Rattle.warehouse.specs.InPlace.{IsWithinCost, LeavesOtherRecords, LeavesNumbers, cost_in};
+ghost use Rattle.warehouse.specs.Loading.{IsLoad, cost_of_load};
 ghost use Rattle.warehouse.specs.State.{AreContents, State, coded_rows, empty, scale_in};
 ghost use Rattle.warehouse.specs.Stored.{IsStored, applied_in, decoded_rows, refusal_in, state_of};
 ghost use Rattle.warehouse.specs.Widening.{KeepsWidened, cost_of_widening, widen_refusal_in, widen_result};
@@ -285,6 +286,8 @@ impl Warehouse {
         ensures in_place { OnOk result (building ≡ Building.InPlace →
             IsInPlace self.old.state batch.changes self.new.state.texts
             self.old.tree self.new.tree steps.old steps.new) }
+        ensures loaded { OnOk result (IsLoad building self.old.state batch.changes →
+            steps.new ≤ steps.old + cost_of_load self.new.state) }
         ensures valid { AreContents self.new }
         ensures same { OnErr result (self.new ≡ self.old) }
         ensures images { overlaid self.new.images self.new.tree ≡ self.old.tree }
@@ -308,6 +311,7 @@ impl Warehouse {
         requires { length bytes.now ≤ MAX_FILE }
         ensures gives { Gives refusal_in (applied_in self.new.state) result
             (batches.result self.old.state batches.Load bytes.now) }
+        ensures steps { OnOk result (steps.new ≤ steps.old + cost_of_load self.new.state) }
         ensures valid { AreContents self.new }
         ensures state { OnErr result (self.new.state ≡ self.old.state) }
         ensures tree { OnErr result (self.new.tree ≡ self.old.tree) }
