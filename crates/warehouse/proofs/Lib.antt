@@ -6,6 +6,7 @@ mod Deletions
 mod Growing
 mod Indexed
 mod NodeLists
+mod Loads
 mod ListedClasses
 mod TreeInsertions
 mod Inserting

@@ -116,6 +116,18 @@ module _ (tree : Tree ℕ) where
           let second = sum_by-cons (λ (e : ℕ × Known). length e.1.edges) e es in
           omega (arith, more, first, second)
 
+  -- different numbers of nodes are no more than the nodes
+  pub few_there : (listed : List ℕ) → EachOnce listed → ((k : ℕ) → Among k listed → IsSome (numbers.get tree k))
+      → length listed ≤ numbers.len tree
+  unfolding keys
+  few_there listed once are_there =
+      let most = sum_within (λ k. 1) listed keys once (λ k m. key_there k (are_there k m)) in
+      let ones = sum_ones listed in
+      let all = sum_ones keys in
+      let long = length-map (numbers.entries tree) (λ (e : ℕ × Known). e.0) in
+      let size = numbers.len-entries tree in
+      omega (arith, most, ones, all, long, size)
+
   module _ (listed : List ℕ) (are : AreNodesOf tree listed) where
     within : (k : ℕ) → Among k listed → Among k keys
     within k m = key_there k (are.there k m)
@@ -126,14 +138,7 @@ module _ (tree : Tree ℕ) where
 
     -- there are no more numbers than nodes
     pub listed_few : length listed ≤ numbers.len tree
-    unfolding keys
-    listed_few =
-        let most = sum_within (λ k. 1) listed keys (each_once listed are.once) within in
-        let ones = sum_ones listed in
-        let all = sum_ones keys in
-        let long = length-map (numbers.entries tree) (λ (e : ℕ × Known). e.0) in
-        let size = numbers.len-entries tree in
-        omega (arith, most, ones, all, long, size)
+    listed_few = few_there listed (each_once listed are.once) are.there
 
   pub numbers_few : (nodes : List NodeNo) → AreNodesOf tree (seen.numbers nodes) → length nodes ≤ numbers.len tree
   numbers_few nodes are = subst (λ n. n ≤ numbers.len tree) (length-map nodes number) (listed_few (seen.numbers nodes) are)

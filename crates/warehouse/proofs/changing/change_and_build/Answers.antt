@@ -1,13 +1,14 @@
-use Rattle.std.proofs.Common.{Err, List, ◌≡◌, ◌+◌, ◌++◌, ◌<◌, ◌≤◌, ◌∙◌, ℕ, ap, length, subst, sym}
+use Rattle.std.proofs.Common.{Err, List, ◌≡◌, ◌+◌, ◌++◌, ◌<◌, ◌≤◌, ◌∙◌, ℕ, ap, length, subst, sym, [], arith}
 use Rattle.std.specs.Ordering.{nat_cmp}
 use Rattle.base_table.specs.Places.{Places, rows_of}
 use Rattle.csv_load.specs.Batch.{deleted, inserted}
+use Rattle.class_builder.specs.Costs.{cost_of_building}
 use Rattle.cube_defs.specs.Text.{Text}
 use Rattle.cube_defs.specs.Tree.{nodes}
 use Rattle.qc_arena.specs.Map.{Arena, is_open}
 use Rattle.warehouse.specs.Batch.{rows_after}
 use Rattle.warehouse.specs.Changing.{state_in}
-use Rattle.warehouse.specs.InPlace.{cost_of_insertions, cost_of_batch, cost_of_deletions, gone, with_codes}
+use Rattle.warehouse.specs.InPlace.{cost_of_insertions, cost_of_batch, cost_of_deletions, gone, with_codes, kept}
 use Rattle.warehouse.specs.State.{State}
 use Rattle.warehouse.specs.Steps.{rows_before, rows_from_place}
 use Rattle.warehouse.specs.Stored.{decoded_rows}
@@ -15,6 +16,7 @@ use Rattle.warehouse.proofs.Causes.{last-full, last-none}
 use Rattle.warehouse.proofs.Counted.{nodes-decoded}
 use Rattle.warehouse.proofs.Touching.{touched-both}
 use Rattle.warehouse.proofs.TreeInsertions.{batch-apart, batch-numbers, batch-steps, changed-rows}
+use Rattle.warehouse.proofs.Loads.{rows-none, tree-none}
 use Rattle.warehouse.proofs.changing.change_and_build.Goals as goal
 
 pub returns-in-Ok-make_tree-clause-made : goal.returns-in-Ok-make_tree-clause-made
@@ -145,3 +147,21 @@ returns-in-Err-Full-clause-cause g c =
     c.change_rows.ensures.frames.dictionary.distinct)
     (subst (λ (max : ℕ). max < length (nodes nat_cmp (rows_of table))) max
     (c.in-Err-Full.ensures.full (ap Err c.in-Err-Full.field-0-is)))
+
+pub returns-in-Ok-make_tree-clause-loaded : goal.returns-in-Ok-make_tree-clause-loaded
+returns-in-Ok-make_tree-clause-loaded g c = λ load.
+    let is = c.in-Ok.ensures.made in
+    let frames = c.change_rows.ensures.frames in
+    let t = c.args.cube.now.table in
+    let t' = c.change_rows.new.cube.table in
+    let ids = deleted c.args.batch.changes in
+    let none : rows_of t ≡ [] = rows-none c.args.cube.now.dict.lists (rows_of t) load.none in
+    let left : rows_before t' c.in-Ok.first ≡ [] = is.left ∙ ap (kept ids) none in
+    let empty = tree-none t'.measures (rows_before t' c.in-Ok.first) c.change_rows.new.cube.tree.now left
+    is.before.canonical in
+    let dims : t'.dims ≡ length c.args.schema.now.dims
+    = ap (λ (t : Places). t.dims) frames.of_table ∙ c.requires.begun.stored.dims in
+    let cost = ap (λ (n : ℕ). cost_of_building n c.make_tree.new.tree.now) dims in
+    let deletions = ap (cost_of_deletions t.dims (rows_of t)) load.inserts in
+    let built = c.in-Ok-make_tree.ensures.scratch load.scratch empty in
+    omega (arith, is.steps, deletions, built, cost)

@@ -1,4 +1,4 @@
-use Rattle.std.proofs.Common.{Option, ◌∙◌, ap, subst, sym}
+use Rattle.std.proofs.Common.{Option, arith, ◌∙◌, ap, subst, sym}
 use Rattle.std.specs.Prelude.{IfSome}
 use Rattle.base_table.specs.Places.{Places, rows_of}
 use Rattle.qc_arena.specs.Codes.{Shape}
@@ -23,3 +23,9 @@ make_index-requires-clause-before g c =
     subst (λ (o : Option Shape). IfSome o (λ before. IsTreeOfSome c.args.schema.now before.tree
     × IsIndexed c.args.schema.now before.tree c.args.index.now))
     (sym (ap (λ (a : Arena). a.was) c.change_and_build.ensures.frames.of_tree)) c.requires.before
+
+pub returns-in-Ok-make_index-clause-loaded : goal.returns-in-Ok-make_index-clause-loaded
+returns-in-Ok-make_index-clause-loaded g c = λ load.
+    let built = c.in-Ok.ensures.loaded load in
+    let indexed = c.make_index.ensures.scratch load.scratch in
+    omega (arith, built, indexed)

@@ -1,9 +1,11 @@
-use Rattle.std.proofs.Common.{◌∙◌, ℕ, List, ap, subst, sym, take}
+use Rattle.std.proofs.Common.{◌≤◌, ◌+◌, ◌∙◌, ℕ, List, ap, length, subst, sym, take}
 use Rattle.std.specs.Prelude.{IfSome}
 use Rattle.cube_defs.specs.Tree.{Tree}
 use Rattle.base_table.specs.Places.{rows_of}
 use Rattle.measure_index.specs.Rankings.{Ranking}
+use Rattle.qc_arena.specs.Map.{Arena}
 use Rattle.warehouse.specs.Changing.{AreAsBefore, state_in}
+use Rattle.warehouse.specs.Loading.{IsLoad, cost_of_tree}
 use Rattle.warehouse.specs.State.{Contents, IsIndexed}
 use Rattle.warehouse.specs.Steps.{IsCause}
 use Rattle.warehouse.specs.Stored.{IsTreeOfSome, refusal_in}
@@ -105,3 +107,11 @@ returns-in-Err-change_and_index-clause-parts g c =
           (subst (λ (t : Tree ℕ). IsIndexed c.args.schema.now t c.args.index.now)
           (sym back.same_tree) c.requires.parts.indexed);
     }
+
+pub returns-in-Ok-change_and_index-clause-loaded : goal.returns-in-Ok-change_and_index-clause-loaded
+returns-in-Ok-change_and_index-clause-loaded g c = λ load.
+    let begun = subst (λ (cube : Cube). IsLoad c.args.building (state_in c.args.schema.now cube) c.args.batch.changes)
+    (sym c.begin-lens.ensures.opened) load in
+    subst (λ (t : Tree ℕ). c.change_and_index.new.steps ≤ c.args.steps.now
+    + cost_of_tree (length c.args.schema.now.dims) t) (sym (ap (λ (a : Arena). a.now) c.commit.ensures.of_tree))
+    (c.in-Ok-change_and_index.ensures.loaded begun)

@@ -1,4 +1,6 @@
-use Rattle.std.proofs.Common.{◌≡◌, ◌∙◌, Err, List, Ok, Result, ap, arith, length, nat_eq, subst, sym, true}
+use Rattle.std.proofs.Common.{◌≡◌, ◌≤◌, ◌+◌, ◌∙◌, Err, List, [], Ok, Result, ap, arith, length, map, nat_eq, refl, subst, sym, true}
+use Rattle.std.proofs.lemmas.List.{nil_from_length}
+use Rattle.std.proofs.lemmas.Result.{on_ok_weaker}
 use Rattle.std.specs.Prelude.{IfSome}
 use Rattle.base_table.specs.Places.{rows_of}
 use Rattle.cell_core.specs.Gives.{Gives}
@@ -6,12 +8,16 @@ use Rattle.csv_load.specs.Batch.{Change}
 use Rattle.csv_load.specs.Faults.{Fault}
 use Rattle.csv_load.specs.Files.{base_in}
 use Rattle.cube_defs.specs.Text.{Text}
+use Rattle.value_dict.specs.Decoded.{decoded_row}
 use Rattle.warehouse.specs.Batch.{Load, result, result_of}
 use Rattle.warehouse.specs.Changing.{state_in}
+use Rattle.warehouse.specs.Loading.{IsLoad, cost_of_load}
 use Rattle.warehouse.specs.State.{Contents, State}
 use Rattle.warehouse.specs.Stored.{applied_in, decoded_rows, refusal_in}
+use Rattle.warehouse.specs.declared.changing.Building.TheVariants as buildings
 use Rattle.warehouse.proofs.Decoding.{length-rows}
 use Rattle.warehouse.proofs.Images.{err-then, over-none}
+use Rattle.warehouse.proofs.Loads.{none-deleted}
 use Rattle.warehouse.proofs.Trees.{is-held}
 use Rattle.warehouse.proofs.store.Warehouse.load.Goals as goal
 
@@ -107,3 +113,20 @@ make_changes-requires-clause-measures g c = c.in-Ok.ensures.measures
 
 pub make_changes-requires-clause-images : goal.make_changes-requires-clause-images
 make_changes-requires-clause-images g c = ap (λ (w : Contents). w.images) c.drop_images.ensures.rest
+
+pub returns-in-Ok-clause-steps : goal.returns-in-Ok-clause-steps
+returns-in-Ok-clause-steps g c =
+    let inside = c.self.inside in
+    let view : state_in inside.schema inside.cube ≡ c.drop_images.new.self.state
+    = ap (λ (w : Contents). w.state) c.self.view_is in
+    let rows : rows_of inside.cube.table ≡ []
+    = nil_from_length (rows_of inside.cube.table) (omega (arith, c.count.ensures.value, c.if-count-ne0.false)) in
+    let load : IsLoad buildings.FromScratch c.drop_images.new.self.state c.in-Ok.batch.changes = record {
+      scratch = refl;
+      none = ap (λ (s : State). s.rows) (sym view) ∙ ap (map (decoded_row inside.cube.dict.lists)) rows;
+      inserts = none-deleted c.in-Ok.batch.changes c.in-Ok.ensures.insertions;
+    } in
+    on_ok_weaker c.make_changes.result
+    (λ (within : IsLoad buildings.FromScratch c.drop_images.new.self.state c.in-Ok.batch.changes
+    → c.make_changes.new.steps ≤ c.args.steps.now + cost_of_load c.make_changes.new.self.state). within load)
+    c.make_changes.ensures.loaded
