@@ -1,7 +1,8 @@
 // A warehouse with its pinned versions.
 ghost use Rattle.std.specs.FinMap as finmap;
-ghost use Rattle.std.specs.Prelude.{Err, IfNone, IfOk, IfSome, IsSome, None, OnErr, OnOk, Some, [], length, true, ◌+◌, ◌++◌, ◌<◌, ◌∷◌, ◌↔◌, ◌≡◌, ◌≢◌, ◌≤◌};
+ghost use Rattle.std.specs.Prelude.{Err, IfNone, IfOk, IfSome, IsErr, IsSome, None, OnErr, OnOk, Some, [], length, true, ◌+◌, ◌++◌, ◌<◌, ◌∷◌, ◌↔◌, ◌≡◌, ◌≢◌, ◌≤◌};
 ghost use Rattle.cell_core.specs.Gives.{Gives};
+ghost use Rattle.csv_load.specs.Files.{batch_in};
 ghost use Rattle.qc_schema.specs.Grammar.{is_new_name};
 ghost use Rattle.pinned_view.specs.Refusals.{pin_refusal, widen_refusal_in};
 ghost use Rattle.pinned_view.specs.Versions.{AreVersions, Version, version_now, version_of, without};
@@ -208,6 +209,8 @@ impl Pinned {
         ensures apart { OnOk result (LeavesOtherRecords self.old.now bytes.now self.new.now) }
         ensures steps { OnOk result
             (IsWithinCost self.old.now.state bytes.now steps.old steps.new) }
+        ensures unread { IsErr (batch_in self.old.now.state.schema bytes.now)
+            → steps.new ≡ steps.old }
         ensures valid { AreContents self.new.now }
         ensures pins { self.new.pins ≡ self.old.pins }
         ensures err { OnErr result (self.new ≡ self.old) }
@@ -241,6 +244,8 @@ impl Pinned {
             (batches.result self.old.now.state batches.Apply bytes.now) }
         ensures steps { OnOk result
             (IsWithinCost self.old.now.state bytes.now steps.old steps.new) }
+        ensures unread { IsErr (batch_in self.old.now.state.schema bytes.now)
+            → steps.new ≡ steps.old }
         ensures same { self.new ≡ self.old }
     {
         match reserve_one(&mut self.kept, &self.pins) {

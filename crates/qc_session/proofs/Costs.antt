@@ -1,13 +1,14 @@
 -- What the lines of a script take is within what they may cost.
 use Rattle.std.proofs.Common.{◌≡◌, ◌≤◌, ◌<◌, ◌+◌, ◌*◌, ◌∙◌, ℕ, Bool, List, [], ◌∷◌, ◌++◌, length, true, false, refl}
 use Rattle.std.proofs.Common.{sym, ap, arith, append-nil, map, Option, Some, None, IfSome, inl, inr}
-use Rattle.std.specs.Prelude.{IsSomeAnd, Result, Ok, Err, OnOk, fold, nat_lt, if◌then◌else◌}
+use Rattle.std.specs.Prelude.{IsErr, IsSomeAnd, Result, Ok, Err, OnOk, fold, nat_lt, if◌then◌else◌}
 use Rattle.std.specs.Option.{option_map}
 use Rattle.std.proofs.lemmas.Bool.Decides.{nat_tests}
 use Rattle.std.proofs.lemmas.List.Sums.{fold-append}
 use Rattle.aggregates.specs.Views.{kind_in}
 use Rattle.aggregates.specs.declared.kind.AggKind.{AggKind}
 use Rattle.aggregates.specs.declared.kind.AggKind.TheVariants as kinds
+use Rattle.cell_core.specs.Gives.{Gives}
 use Rattle.cell_core.specs.declared.fields.Field.{Field}
 use Rattle.csv_load.specs.Batch.{Change}
 use Rattle.csv_load.specs.Faults.{Fault}
@@ -24,12 +25,16 @@ use Rattle.query_script.specs.Questions.{Ask}
 use Rattle.query_script.specs.declared.query.Query.{Query}
 use Rattle.query_script.specs.declared.query.Query.TheVariants as queries
 use Rattle.warehouse.specs.Batch as batches
-use Rattle.warehouse.specs.Batch.{Applied, Refusal, result}
-use Rattle.warehouse.specs.InPlace.{IsAccepted, IsWithinCost}
+use Rattle.warehouse.specs.Batch.{Applied, FileUse, Refusal, result, result_of}
+use Rattle.warehouse.specs.InPlace.{IsWithinCost}
+use Rattle.warehouse.specs.Loading.{cost_of_load}
 use Rattle.warehouse.specs.State.{State}
+use Rattle.warehouse.specs.Stored.{applied_in, refusal_in}
+use Rattle.warehouse.specs.declared.refused.Applied as code
+use Rattle.warehouse.specs.declared.refused.Refused.{Refused}
 use Rattle.warehouse.specs.Widening.{WidenRefusal, cost_of_widening, widen_result}
-use Rattle.qc_session.specs.Costs.{Costed, IsWithin, IsWithinScript, batch_cost, both_costs, changes_cost, costed_step, file_cost}
-use Rattle.qc_session.specs.Costs.{item_cost, line_cost, named_kind, query_cost, script_cost, widen_cost, widening_cost}
+use Rattle.qc_session.specs.Costs.{Costed, IsWithin, IsWithinScript, batch_cost, both_costs, bytes_cost, changes_cost, costed_step, file_cost}
+use Rattle.qc_session.specs.Costs.{item_cost, line_cost, named_kind, query_cost, script_cost, whole_cost, widen_cost, widening_cost}
 use Rattle.qc_session.specs.Forms.{FileNames}
 use Rattle.qc_session.specs.Lines.{is_passed, script_lines}
 use Rattle.qc_session.specs.Pins.{PinnedState, pin_in, unpinned}
@@ -103,47 +108,86 @@ pub unwidened-within : (s : State) (pins : List Version) (name value : Text) (re
 unwidened-within s (pin ∷ pins) name value refusal from to free is = absurd (free (omega arith))
 unwidened-within s [] name value refusal from to free is = rw (is refl) tt
 
--- a batch that was read and taken
-pub batch-within : (s : State) (bytes : List ℕ) (from to : ℕ) → length bytes ≤ MAX_FILE
-    → (IsAccepted s bytes → IsWithinCost s bytes from to) → IsWithin (batch_cost s bytes) from to
-batch-within s bytes from to short w = rw fits (by (batch_in s.schema bytes) refl (result s batches.Apply bytes) refl)
+-- a file that is no batch isn't taken
+fault-not-taken : (s : State) (fault : Fault) (applied : Applied) → result_of s (Err fault) ≡ Ok applied → ⊥
+fault-not-taken s fault applied e = cc
+
+-- a batch that was taken
+batch-within : (s : State) (bytes : List ℕ) (applied : Applied) (from to : ℕ)
+    → result s batches.Apply bytes ≡ Ok applied → IsWithinCost s bytes from to → IsWithin (batch_cost s bytes) from to
+batch-within s bytes applied from to does w = rw does (by (batch_in s.schema bytes) refl)
+  where
+    by : (r : Result (List (Change Text)) Fault) → batch_in s.schema bytes ≡ r
+        → IsWithin (changes_cost s r (Ok applied)) from to
+    by (Err fault) read = absurd (fault-not-taken s fault applied (rw read at does))
+    by (Ok changes) read = w changes read
+
+pub applied-within : (r : Result code.Applied Refused) (s : State) (bytes : List ℕ) (then : State) (from to : ℕ)
+    → Gives refusal_in (applied_in then) r (result s batches.Apply bytes) → OnOk r (IsWithinCost s bytes from to)
+    → OnOk r (IsWithin (bytes_cost batches.Apply s bytes) from to)
+applied-within (Ok applied) s bytes then from to gives w = batch-within s bytes (applied_in then applied) from to gives w
+applied-within (Err refused) s bytes then from to gives w = tt
+
+-- a base file that was taken
+pub loaded-within : (r : Result code.Applied Refused) (s : State) (bytes : List ℕ) (then : State) (from to : ℕ)
+    → Gives refusal_in (applied_in then) r (result s batches.Load bytes) → OnOk r (to ≤ from + cost_of_load then)
+    → OnOk r (IsWithin (bytes_cost batches.Load s bytes) from to)
+loaded-within (Ok applied) s bytes then from to gives w = rw gives w
+loaded-within (Err refused) s bytes then from to gives w = tt
+
+-- one that was refused
+refused-within : (s : State) (bytes : List ℕ) (kind : FileUse) (refusal : Refusal) (from to : ℕ)
+    → result s kind bytes ≡ Err refusal → (kind ≡ batches.Apply → IsErr (batch_in s.schema bytes) → to ≡ from)
+    → IsWithin (bytes_cost kind s bytes) from to
+refused-within s bytes batches.Load refusal from to does still = rw does tt
+refused-within s bytes batches.Apply refusal from to does still = rw does (by (batch_in s.schema bytes) (still refl))
+  where
+    by : (r : Result (List (Change Text)) Fault) → (IsErr r → to ≡ from)
+        → IsWithin (changes_cost s r (Err refusal)) from to
+    by (Err fault) still = rw (still tt) (no-steps from)
+    by (Ok changes) still = tt
+
+pub unmoved-within : {Texts : Type 0} (s : State) (bytes : List ℕ) (kind : FileUse) (refusal : Option Refusal)
+    (texts_of : Refusal → Texts) (words : Texts) (from to : ℕ) → Some words ≡ option_map texts_of refusal
+    → IfSome refusal (λ f. result s kind bytes ≡ Err f)
+    → (kind ≡ batches.Apply → IsErr (batch_in s.schema bytes) → to ≡ from) → IsWithin (bytes_cost kind s bytes) from to
+unmoved-within s bytes kind None texts_of words from to is gives still = absurd (cc)
+unmoved-within s bytes kind (Some refusal) texts_of words from to is gives still
+    = refused-within s bytes kind refusal from to gives still
+
+-- a file that is short enough, and one that is too long
+pub short-within : (kind : FileUse) (s : State) (bytes : List ℕ) (from to : ℕ) → length bytes ≤ MAX_FILE
+    → IsWithin (bytes_cost kind s bytes) from to → IsWithin (whole_cost kind s bytes) from to
+short-within kind s bytes from to short w = rw fits w
   where
     fits : nat_lt MAX_FILE (length bytes) ≡ false
     fits = grind (arith, nat_tests, short)
 
-    by : (r : Result (List (Change Text)) Fault) → batch_in s.schema bytes ≡ r → (taken : Result Applied Refusal)
-        → result s batches.Apply bytes ≡ taken → IsWithin (changes_cost s r taken) from to
-    by (Err fault) read taken does = tt
-    by (Ok changes) read (Err refusal) does = tt
-    by (Ok changes) read (Ok applied) does = w (rw does refl) changes read
-
--- a file that is too long
-pub long-within : (told : Option FileContents) (name text : List ℕ) (s : State) (Asks : Type 0) (n : ℕ) → text ≡ name
-    → IfSome told (λ t. IsSomeAnd (t text) (λ whole. MAX_FILE < length whole))
-    → IfSome told (λ t. IfSome (t name) (λ bytes. Asks → IsWithin (batch_cost s bytes) n n))
-long-within None name text s Asks n same h = tt
-long-within (Some t) name text s Asks n same h = by (t name) (rw same at h)
+pub long-within : (told : Option FileContents) (name text : List ℕ) (kind : FileUse) (s : State) (n : ℕ)
+    → text ≡ name → IfSome told (λ t. IsSomeAnd (t text) (λ whole. MAX_FILE < length whole))
+    → IfSome told (λ t. IfSome (t name) (λ bytes. IsWithin (whole_cost kind s bytes) n n))
+long-within None name text kind s n same h = tt
+long-within (Some t) name text kind s n same h = by (t name) (rw same at h)
   where
     by : (file : Option (List ℕ)) → IsSomeAnd file (λ whole. MAX_FILE < length whole)
-        → IfSome file (λ bytes. Asks → IsWithin (batch_cost s bytes) n n)
+        → IfSome file (λ bytes. IsWithin (whole_cost kind s bytes) n n)
     by None h = tt
-    by (Some bytes) h = λ asks. rw (longer bytes h) (no-steps n)
+    by (Some bytes) h = rw (longer bytes h) (no-steps n)
       where
         longer : (bytes : List ℕ) → MAX_FILE < length bytes → nat_lt MAX_FILE (length bytes) ≡ true
         longer bytes more = grind (arith, nat_tests, more)
 
--- what a file that is applied or tried may cost
-pub file-within : (told : Option FileContents) (name : List ℕ) (s : State) (from to : ℕ)
-    → IfSome told (λ t. IfSome (t name) (λ bytes. batches.Apply ≡ batches.Apply → IsWithin (batch_cost s bytes) from to))
-    → IfSome told (λ t. IsWithin (file_cost s (t name)) from to)
-file-within None name s from to h = tt
-file-within (Some t) name s from to h = by (t name) h
+-- what a file that a line names may cost
+pub file-within : (told : Option FileContents) (name : List ℕ) (kind : FileUse) (s : State) (from to : ℕ)
+    → IfSome told (λ t. IfSome (t name) (λ bytes. IsWithin (whole_cost kind s bytes) from to))
+    → IfSome told (λ t. IsWithin (file_cost kind s (t name)) from to)
+file-within None name kind s from to h = tt
+file-within (Some t) name kind s from to h = by (t name) h
   where
-    by : (file : Option (List ℕ))
-        → IfSome file (λ bytes. batches.Apply ≡ batches.Apply → IsWithin (batch_cost s bytes) from to)
-        → IsWithin (file_cost s file) from to
+    by : (file : Option (List ℕ)) → IfSome file (λ bytes. IsWithin (whole_cost kind s bytes) from to)
+        → IsWithin (file_cost kind s file) from to
     by None h = tt
-    by (Some bytes) h = h refl
+    by (Some bytes) h = h
 
 -- a line with a fault
 pub fault-within : {Texts : Type 0} (told : Option FileContents) (s : PinnedState) (line : List ℕ) (n : ℕ)

@@ -18,8 +18,9 @@ use Rattle.query_script.specs.Queries as queries
 use Rattle.query_script.specs.Queries.{Query}
 use Rattle.query_script.specs.Questions as asks
 use Rattle.query_script.specs.Questions.{Question}
-use Rattle.warehouse.specs.Batch.{Applied, Apply, Refusal, result}
+use Rattle.warehouse.specs.Batch.{Applied, Apply, FileUse, Load, Refusal, result}
 use Rattle.warehouse.specs.InPlace.{cost_in}
+use Rattle.warehouse.specs.Loading.{cost_of_load}
 use Rattle.warehouse.specs.State.{State, with_rows}
 use Rattle.warehouse.specs.Widening.{WidenRefusal, cost_of_widening, widen_result}
 use Rattle.qc_session.specs.Forms.{FileNames}
@@ -66,21 +67,34 @@ abbrev pub cost_over : State → Query → Option (List (Row Text)) → Option �
 cost_over s query None = Some 0
 cost_over s query (Some rows) = query_cost (with_rows s rows) (λ kind. false) query
 
--- the changes of a batch that a state takes; no bound is claimed of a batch that is refused
+-- the changes of a batch that a state takes; a file that is no batch takes no step, and no bound is claimed of changes
+-- that are refused
 abbrev pub changes_cost : State → Result (List (Change Text)) Fault → Result Applied Refusal → Option ℕ
-changes_cost s (Err fault) taken = None
+changes_cost s (Err fault) taken = Some 0
 changes_cost s (Ok changes) (Err refusal) = None
 changes_cost s (Ok changes) (Ok applied) = Some (cost_in s changes)
 
--- a batch that is applied or tried; a file that is too long isn't taken
+-- a batch that is applied or tried
 abbrev pub batch_cost : State → List ℕ → Option ℕ
-batch_cost s bytes = if nat_lt MAX_FILE (length bytes) then Some 0
-    else changes_cost s (batch_in s.schema bytes) (result s Apply bytes)
+batch_cost s bytes = changes_cost s (batch_in s.schema bytes) (result s Apply bytes)
+
+-- a base file that is loaded, by the state after it; no bound is claimed of one that is refused
+abbrev pub loaded_cost : Result Applied Refusal → Option ℕ
+loaded_cost (Err refusal) = None
+loaded_cost (Ok applied) = Some (cost_of_load applied.state)
+
+-- the bytes of a file, by what it is read for; a file that is too long isn't taken
+abbrev pub bytes_cost : FileUse → State → List ℕ → Option ℕ
+bytes_cost Load s bytes = loaded_cost (result s Load bytes)
+bytes_cost Apply s bytes = batch_cost s bytes
+
+abbrev pub whole_cost : FileUse → State → List ℕ → Option ℕ
+whole_cost kind s bytes = if nat_lt MAX_FILE (length bytes) then Some 0 else bytes_cost kind s bytes
 
 -- the same of a file that is told
-abbrev pub file_cost : State → Option (List ℕ) → Option ℕ
-file_cost s None = None
-file_cost s (Some bytes) = batch_cost s bytes
+abbrev pub file_cost : FileUse → State → Option (List ℕ) → Option ℕ
+file_cost kind s None = None
+file_cost kind s (Some bytes) = whole_cost kind s bytes
 
 -- a new dimension; no bound is claimed of one that is refused
 abbrev pub widening_cost : State → Result Applied WidenRefusal → Option ℕ
@@ -92,12 +106,12 @@ abbrev pub widen_cost : State → List Pin → Text → Text → Option ℕ
 widen_cost s [] name value = widening_cost s (widen_result s name value)
 widen_cost s (pin ∷ pins) name value = Some 0
 
--- What a line asks, or its fault. No bound is claimed of `load`.
+-- what a line asks, or its fault
 abbrev pub question_cost : PinnedState → FileContents → Result Question LineFault → Option ℕ
 question_cost s told (Err fault) = Some 0
-question_cost s told (Ok (asks.Load name)) = None
-question_cost s told (Ok (asks.Apply name)) = file_cost s.state (told name)
-question_cost s told (Ok (asks.Try name)) = file_cost s.state (told name)
+question_cost s told (Ok (asks.Load name)) = file_cost Load s.state (told name)
+question_cost s told (Ok (asks.Apply name)) = file_cost Apply s.state (told name)
+question_cost s told (Ok (asks.Try name)) = file_cost Apply s.state (told name)
 question_cost s told (Ok (asks.Widen name value)) = widen_cost s.state s.pins name value
 question_cost s told (Ok (asks.Pin name)) = Some 0
 question_cost s told (Ok (asks.Unpin name)) = Some 0

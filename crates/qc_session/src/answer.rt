@@ -1,14 +1,15 @@
 // The answer to one line.
-ghost use Rattle.std.specs.Prelude.{Err, IfErr, IfOk, IfSome, IsTrue, None, Ok, OnErr, OnOk, Some, length, option_map, true, ⊤, ◌≡◌, ◌≢◌, ◌≤◌};
+ghost use Rattle.std.specs.Prelude.{Err, IfErr, IsErr, IfOk, IfSome, IsTrue, None, Ok, OnErr, OnOk, Some, length, option_map, true, ⊤, ◌≡◌, ◌≢◌, ◌≤◌};
+ghost use Rattle.csv_load.specs.Files.{batch_in};
 ghost use Rattle.qc_io.specs.Outside.{Rose, FileContents};
 ghost use Rattle.query_script.specs.Commands.{IsQuestion, wants_memory};
 ghost use Rattle.query_script.specs.Lines.{may_want_memory};
 ghost use Rattle.query_script.specs.Questions.{question_in};
 ghost use Rattle.warehouse.specs.Batch as batches;
-ghost use Rattle.warehouse.specs.InPlace.{IsAccepted, IsWithinCost, LeavesOtherRecords, LeavesNumbers};
+ghost use Rattle.warehouse.specs.InPlace.{LeavesOtherRecords, LeavesNumbers};
 ghost use Rattle.warehouse.specs.State.{State};
 ghost use Rattle.qc_session.specs.Answers.{answer, answer_to, with_pins, change_answer, file_answer, file_named, file_of};
-ghost use Rattle.qc_session.specs.Costs.{IsWithin, batch_cost, line_cost, query_cost, question_cost};
+ghost use Rattle.qc_session.specs.Costs.{IsWithin, bytes_cost, line_cost, query_cost, question_cost, whole_cost};
 ghost use Rattle.qc_session.specs.Pins.{pinned_state_in};
 ghost use Rattle.query_answers.specs.Queries.{names_kind, query_reply};
 ghost use Rattle.query_script.specs.Commands.{IsQuery};
@@ -85,8 +86,10 @@ fn take_file<L: Ledger>(
         → LeavesNumbers pinned.old.now bytes.now pinned.new.now) }
     ensures apart { OnOk result (kind ≡ FileUse.Apply
         → LeavesOtherRecords pinned.old.now bytes.now pinned.new.now) }
-    ensures steps { OnOk result (kind_in kind ≡ batches.Apply
-        → IsWithinCost pinned.old.now.state bytes.now steps.old steps.new) }
+    ensures steps { OnOk result
+        (IsWithin (bytes_cost (kind_in kind) pinned.old.now.state bytes.now) steps.old steps.new) }
+    ensures unread { kind_in kind ≡ batches.Apply
+        → IsErr (batch_in pinned.old.now.state.schema bytes.now) → steps.new ≡ steps.old }
     ensures same { OnErr result (pinned.new ≡ pinned.old) }
 {
     match kind {
@@ -115,9 +118,8 @@ fn file_reply<L: Ledger>(
     ensures numbers { kind ≡ FileUse.Apply → LeavesNumbers pinned.old.now bytes.now pinned.new.now }
     ensures apart { kind ≡ FileUse.Apply
         → LeavesOtherRecords pinned.old.now bytes.now pinned.new.now }
-    ensures steps { OnOk result (kind_in kind ≡ batches.Apply
-        → IsAccepted pinned.old.now.state bytes.now →
-        IsWithinCost pinned.old.now.state bytes.now steps.old steps.new) }
+    ensures steps { OnOk result
+        (IsWithin (bytes_cost (kind_in kind) pinned.old.now.state bytes.now) steps.old steps.new) }
     ensures same { OnErr result (pinned.new ≡ pinned.old) }
 {
     match take_file(pinned, kind, bytes, steps) {
@@ -165,8 +167,8 @@ fn answer_file<F: Files, L: Ledger>(
         (λ t. IfSome (t line.name) (λ bytes. line.kind ≡ FileUse.Apply
         → LeavesOtherRecords pinned.old.now bytes pinned.new.now)) }
     ensures steps { OnOk result (IfSome (F.told files.old)
-        (λ t. IfSome (t line.name) (λ bytes. kind_in line.kind ≡ batches.Apply
-        → IsWithin (batch_cost pinned.old.now.state bytes) steps.old steps.new))) }
+        (λ t. IfSome (t line.name) (λ bytes.
+        IsWithin (whole_cost (kind_in line.kind) pinned.old.now.state bytes) steps.old steps.new))) }
 {
     let FileLine { kind, name } = line;
     match read_all(alloc, files, name.as_str(), MAX_FILE) {

@@ -1,7 +1,8 @@
 use Rattle.std.proofs.Common.{refl}
 use Rattle.std.proofs.lemmas.Result.{on_ok_weaker}
 use Rattle.qc_io.specs.Outside.{Rose}
-use Rattle.qc_session.proofs.Answered.{for_told, on-ok}
+use Rattle.warehouse.specs.Batch as batches
+use Rattle.qc_session.proofs.Answered.{for_told}
 use Rattle.qc_session.proofs.Costs.{file-within}
 use Rattle.qc_session.proofs.NoFile.{names-none}
 use Rattle.qc_session.proofs.Stopped.{fault-named, memory-wanted}
@@ -30,7 +31,8 @@ returns-in-Load g c =
           (Rose (g.F.Files.faults c.args.files.now) (g.F.Files.faults c.answer_file.new.files)) e.fault;
       untold = e.untold;
       answered = e.answered;
-      steps = on-ok c.answer_file.result _ (for_told (g.F.Files.told c.args.files.now) _ (λ t. tt));
+      steps = on_ok_weaker c.answer_file.result
+          (file-within (g.F.Files.told c.args.files.now) c.in-Load.name batches.Load _ _ _) e.steps;
     })
 
 pub returns-in-Apply : goal.returns-in-Apply
@@ -46,7 +48,8 @@ returns-in-Apply g c =
           (Rose (g.F.Files.faults c.args.files.now) (g.F.Files.faults c.answer_file-in-Apply.new.files)) e.fault;
       untold = e.untold;
       answered = e.answered;
-      steps = on_ok_weaker c.answer_file-in-Apply.result (file-within (g.F.Files.told c.args.files.now) c.in-Apply.name _ _ _) e.steps;
+      steps = on_ok_weaker c.answer_file-in-Apply.result
+          (file-within (g.F.Files.told c.args.files.now) c.in-Apply.name batches.Apply _ _ _) e.steps;
     })
 
 pub returns-in-Try : goal.returns-in-Try
@@ -62,5 +65,6 @@ returns-in-Try g c =
           (Rose (g.F.Files.faults c.args.files.now) (g.F.Files.faults c.answer_file-in-Try.new.files)) e.fault;
       untold = e.untold;
       answered = e.answered;
-      steps = on_ok_weaker c.answer_file-in-Try.result (file-within (g.F.Files.told c.args.files.now) c.in-Try.name _ _ _) e.steps;
+      steps = on_ok_weaker c.answer_file-in-Try.result
+          (file-within (g.F.Files.told c.args.files.now) c.in-Try.name batches.Apply _ _ _) e.steps;
     })

@@ -1,6 +1,9 @@
 use Rattle.std.proofs.Common.{◌≡◌, ◌∙◌, ap, subst}
 use Rattle.pinned_view.specs.Versions.{Versions}
 use Rattle.warehouse.specs.State.{Contents, IsState}
+use Rattle.warehouse.specs.Stored.{refusal_in}
+use Rattle.qc_session.specs.Stops.{kind_in}
+use Rattle.qc_session.proofs.Costs.{unmoved-within}
 use Rattle.qc_session.proofs.Refused.{dim-within}
 use Rattle.qc_session.proofs.answer.file_reply.Goals as goal
 
@@ -15,3 +18,10 @@ file_refusal-requires-clause-dim g c =
 
 pub file_refusal-requires-clause-layout : goal.file_refusal-requires-clause-layout
 file_refusal-requires-clause-layout g c = rw c.schema.ensures.value c.schema.ensures.valid.state.consistent.layout
+
+pub returns-in-Some-clause-steps : goal.returns-in-Some-clause-steps
+returns-in-Some-clause-steps g c =
+    let same : c.now.result.now.state ≡ c.args.pinned.now.now.state = ap (λ (h : Contents). h.state) c.now.ensures.value
+    ∙ ap (λ (v : Versions). v.now.state) c.in-Err.ensures.same in
+    unmoved-within c.args.pinned.now.now.state c.args.bytes.now (kind_in c.args.kind) (refusal_in c.in-Err.cause) _ _
+    c.args.steps.now c.take_file.new.steps c.in-Some.ensures.texts c.in-Err.ensures.gives.1 c.in-Err.ensures.unread

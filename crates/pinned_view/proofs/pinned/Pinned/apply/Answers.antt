@@ -1,5 +1,6 @@
 use Rattle.std.proofs.Common.{Err, Ok, ap, length, map, refl, subst, sym, ◌∙◌, ◌≡◌}
-use Rattle.std.specs.Prelude.{IfSome}
+use Rattle.std.specs.Prelude.{IfSome, IsErr}
+use Rattle.csv_load.specs.Files.{batch_in}
 use Rattle.warehouse.proofs.CallerLemmas.{taken-of, tree-after}
 use Rattle.warehouse.specs.Batch.{Apply, result}
 use Rattle.warehouse.specs.InPlace.{IsWithinCost, LeavesOtherRecords, LeavesNumbers}
@@ -91,3 +92,14 @@ pub returns-in-Ok-apply-clause-steps : goal.returns-in-Ok-apply-clause-steps
 returns-in-Ok-apply-clause-steps g c =
     subst (λ (v : Versions). IsWithinCost v.now.state c.args.bytes.now c.args.steps.now c.apply.new.steps)
     c.self.view_is c.in-Ok-apply.ensures.steps
+
+pub returns-in-Ok-apply-clause-unread : goal.returns-in-Ok-apply-clause-unread
+returns-in-Ok-apply-clause-unread g c
+    = subst (λ (v : Versions). IsErr (batch_in v.now.state.schema c.args.bytes.now)
+    → c.apply.new.steps ≡ c.args.steps.now) c.self.view_is c.apply.ensures.unread
+
+
+pub returns-in-Err-apply-clause-unread : goal.returns-in-Err-apply-clause-unread
+returns-in-Err-apply-clause-unread g c
+    = subst (λ (v : Versions). IsErr (batch_in v.now.state.schema c.args.bytes.now)
+    → c.apply.new.steps ≡ c.args.steps.now) c.self.view_is c.apply.ensures.unread

@@ -1,5 +1,7 @@
 use Rattle.std.proofs.Common.{OnOk, ap, map, subst, sym, ◌∙◌, ◌≡◌}
+use Rattle.std.specs.Prelude.{IsErr}
 use Rattle.cell_core.specs.Gives.{Gives}
+use Rattle.csv_load.specs.Files.{batch_in}
 use Rattle.warehouse.specs.Batch.{Apply, result}
 use Rattle.warehouse.specs.InPlace.{IsWithinCost}
 use Rattle.warehouse.specs.State.{Contents, State}
@@ -40,3 +42,8 @@ returns-clause-same g c =
     } in held) in
     ap (λ (held : Contents). let v : Versions = record { now = held; pins = map version_in c.self.inside.pins.items } in
     v) same ∙ c.self.view_is
+
+pub returns-clause-unread : goal.returns-clause-unread
+returns-clause-unread g c
+    = subst (λ (v : Versions). IsErr (batch_in v.now.state.schema c.args.bytes.now)
+    → c.attempt.new.steps ≡ c.args.steps.now) c.self.view_is c.attempt.ensures.unread
