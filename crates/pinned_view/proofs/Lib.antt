@@ -1,4 +1,5 @@
 mod FirstImages
 mod Joining
+mod StoredNumbers
 mod Refusing
 mod Staying

@@ -1,5 +1,5 @@
 -- Several images over one tree.
-use Rattle.std.specs.Prelude.{ℕ, Option, None, List, [], ◌∷◌}
+use Rattle.std.specs.Prelude.{ℕ, ◌≡◌, Option, None, List, [], ◌∷◌}
 use Rattle.std.specs.FinMap as map
 use Rattle.std.specs.Option.{option_or}
 use Rattle.cube_defs.specs.Tree.{Tree}
@@ -14,3 +14,8 @@ with_all_images (images ∷ later) tree = overlaid images (with_all_images later
 abbrev pub first_image : List ImageMap → ℕ → Option (Option Known)
 first_image [] q = None
 first_image (images ∷ later) q = option_or (map.get images q) (first_image later q)
+
+-- a number that had no image in a list, and has none in some images, has none in another list
+abbrev pub StoresNoOthers : List ImageMap → ImageMap → List ImageMap → Type 0
+StoresNoOthers before images now =
+    (q : ℕ) → first_image before q ≡ None → map.get images q ≡ None → first_image now q ≡ None

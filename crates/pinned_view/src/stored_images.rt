@@ -1,10 +1,10 @@
 // The before-images that are stored for the versions, the oldest first.
 ghost use Rattle.std.specs.FinMap as finmap;
 ghost use Rattle.std.specs.List.{list_any};
-ghost use Rattle.std.specs.Prelude.{IfErr, OnErr, OnOk, drop, false, length, true, vec_capacity, ℕ, ◌<◌, ◌==◌, ◌≡◌, ◌≤◌};
+ghost use Rattle.std.specs.Prelude.{IfErr, None, OnErr, OnOk, drop, false, length, true, vec_capacity, ℕ, ◌<◌, ◌==◌, ◌≡◌, ◌≤◌};
 ghost use Rattle.cube_defs.specs.Tree.{Tree};
 ghost use Rattle.qc_arena.specs.Map.{overlaid};
-ghost use Rattle.pinned_view.specs.Past.{with_all_images};
+ghost use Rattle.pinned_view.specs.Past.{StoresNoOthers, first_image, with_all_images};
 ghost use Rattle.pinned_view.specs.Pins.{AreBefore, AreWithin, ReadSame};
 ghost use Rattle.warehouse.specs.State.{AreContents};
 
@@ -64,6 +64,7 @@ fn merge_into_last(kept: &mut Vec<Images>, later: Images) -> Result<(), Images>
     ensures ok { OnOk result ((place : ℕ) (tree : Tree ℕ) → place < length kept.old.items →
         with_all_images (drop place kept.new.items) tree ≡ with_all_images
         (drop place kept.old.items) (overlaid later tree)) }
+    ensures only { OnOk result (StoresNoOthers kept.old.items later kept.new.items) }
     ensures err { OnErr result (kept.new.items ≡ kept.old.items) }
     ensures back { IfErr result (λ back. back ≡ later) }
     ensures len { length kept.new.items ≡ length kept.old.items }
@@ -81,6 +82,8 @@ fn merge_last_two(kept: &mut Vec<Images>, pins: &Vec<Pin>) -> bool
     ensures before { AreBefore (length kept.new.items) pins.now.items }
     ensures same { (tree : Tree ℕ)
         → ReadSame kept.old.items tree kept.new.items tree pins.now.items }
+    ensures only { (q : ℕ) → first_image kept.old.items q ≡ None
+        → first_image kept.new.items q ≡ None }
 {
     let Some(last) = kept.pop() else {
         return false;
@@ -99,13 +102,14 @@ fn merge_last_two(kept: &mut Vec<Images>, pins: &Vec<Pin>) -> bool
 }
 
 /// Moves the before-images of a warehouse's last change to the end of the list, if a version needs
-/// them. Else they are dropped.
+/// them. Else they are dropped. No other number gets an image in the list.
 pub(crate) fn keep_images(kept: &mut Vec<Images>, pins: &Vec<Pin>, warehouse: &mut Warehouse)
     requires room { 0 < length pins.now.items → length kept.old.items < vec_capacity kept.old }
     requires within { AreWithin (length kept.old.items) pins.now.items }
     ensures within { AreWithin (length kept.new.items) pins.now.items }
     ensures same { (tree : Tree ℕ) → ReadSame kept.old.items
         (overlaid warehouse.old.images tree) kept.new.items tree pins.now.items }
+    ensures only { StoresNoOthers kept.old.items warehouse.old.images kept.new.items }
     ensures rest { warehouse.new ≡ record warehouse.old { images = finmap.empty } }
     ensures valid { AreContents warehouse.new }
 {
@@ -124,6 +128,7 @@ fn store_images(kept: &mut Vec<Images>, pins: &Vec<Pin>, images: Images)
     ensures within { AreWithin (length kept.new.items) pins.now.items }
     ensures same { (tree : Tree ℕ)
         → ReadSame kept.old.items (overlaid images tree) kept.new.items tree pins.now.items }
+    ensures only { StoresNoOthers kept.old.items images kept.new.items }
 {
     kept.push(images).unwrap();
     'joins: while merge_last_two(kept, pins) {}
