@@ -1,7 +1,7 @@
 -- A walk from the root lists all nodes of a tree, and its steps are within what listing them may cost.
 use Rattle.std.proofs.Common.{◌≡◌, ◌≢◌, inl, inr, ℕ, zero, suc, ◌+◌, ◌-◌, ◌*◌, ◌<◌, ◌≤◌, Bool, true, false, cond, Option, Some}
 use Rattle.std.proofs.Common.{None, List, [], ◌∷◌}
-use Rattle.std.proofs.Common.{◌++◌, length, map, flat_map, take, replicate, slice_get, nat_eq, eqb-true, refl, sym, ap, ap₂, subst}
+use Rattle.std.proofs.Common.{◌++◌, length, map, flat_map, take, drop, replicate, slice_get, nat_eq, eqb-true, refl, sym, ap, ap₂, subst}
 use Rattle.std.proofs.Common.{◌∙◌, arith, nat_cmp}
 use Rattle.std.specs.Prelude.{IsSome}
 use Rattle.std.specs.FinMap as numbers
@@ -11,7 +11,7 @@ use Rattle.std.specs.Ordering.{eq_by_cmp}
 use Rattle.std.proofs.lemmas.Bool.{false_from_ne_true, cond-true, cond-false}
 use Rattle.std.proofs.lemmas.Bool.Decides.{eqb_tells}
 use Rattle.std.proofs.lemmas.Grind.{flat_map-append}
-use Rattle.std.proofs.lemmas.List.{append-nil, append_assoc, map-append, length-map}
+use Rattle.std.proofs.lemmas.List.{append-nil, append_assoc, map-append, length-append, length-map, take-append-drop}
 use Rattle.std.proofs.lemmas.List.Sums.{sum_by-append, sum_by-cons}
 use Rattle.cell_core.specs.declared.cell.NodeNo.{NodeNo}
 use Rattle.cube_defs.specs.Cell.{cell_prefix}
@@ -189,6 +189,37 @@ module _ (tree : Tree ℕ) where
           steps = omega (arith, was.steps, s, sum);
         }
 
+  begins_one : (n k : ℕ) → 1 ≤ length (subtree tree n k)
+  begins_one zero k = omega arith
+  begins_one (suc n) k = omega arith
+
+  -- a node that is to be listed has room
+  pub node_room : (k values : ℕ) (nodes : List NodeNo) (room : ℕ)
+      → length nodes + length (subtree tree values k) ≤ room → length nodes < room
+  node_room k values nodes room h = omega (arith, h, begins_one values k)
+
+  -- on a walk the descendants by the next edge have room, if all have
+  pub child_room : (k values : ℕ) (old nodes : List NodeNo) (from to j room : ℕ) (x : Edge ℕ ℕ) → 0 < values
+      → slice_get (record_at tree k).edges j ≡ Some x → is_child tree k x ≡ true
+      → IsOnWay k (values - 1) (seen.numbers old) (seen.numbers nodes) from to j
+      → length old + length (subtree tree values k) ≤ room
+      → length nodes + length (subtree tree (values - 1) x.target) ≤ room
+  child_room k values old nodes from to j room x some e c was fits =
+      let f : Edge ℕ ℕ → List ℕ = from_edge tree k (values - 1) in
+      let es = (record_at tree k).edges in
+      let next : by_edges k (values - 1) (j + 1) ≡ by_edges k (values - 1) j ++ subtree tree (values - 1) x.target
+      = by_next k (values - 1) j x e
+      ∙ ap (λ ks. by_edges k (values - 1) j ++ ks) (cond-true (is_child tree k x) _ _ c) in
+      let here = ap length next ∙ length-append (by_edges k (values - 1) j) (subtree tree (values - 1) x.target) in
+      let parts : flat_map f es ≡ by_edges k (values - 1) (j + 1) ++ flat_map f (drop (j + 1) es)
+      = ap (flat_map f) (sym (take-append-drop (j + 1) es))
+      ∙ flat_map-append f (take (j + 1) es) (drop (j + 1) es) in
+      let all = ap length parts ∙ length-append (by_edges k (values - 1) (j + 1)) (flat_map f (drop (j + 1) es)) in
+      let whole = ap length (below_more tree k values some) in
+      let listed = ap length was.listed
+      ∙ length-append (seen.numbers old) (k ∷ by_edges k (values - 1) j) in
+      omega (arith, here, all, whole, listed, fits, length-map nodes number, length-map old number)
+
   -- after the last edge
   pub whole_list : (k values : ℕ) (old now : List ℕ) (from to j : ℕ) → 0 < values
       → length (record_at tree k).edges ≤ j → IsOnWay k (values - 1) old now from to j
@@ -220,6 +251,15 @@ module _ (dims : ℕ) (tree : Tree ℕ) (is : IsTree dims tree) where
         there = λ k m. (below_begins dims tree is.0 is.1 dims root k t m).there;
         all = all_below dims tree is.0 is.1 root at;
       })
+
+  -- there is room for all nodes, if there is for as many
+  pub all_room : (root values room live : ℕ) (nodes : List NodeNo) → cell_at tree root ≡ Some (replicate dims None)
+      → values ≡ dims → nodes ≡ [] → live ≡ numbers.len tree → live ≤ room
+      → length nodes + length (subtree tree values root) ≤ room
+  all_room root values room live nodes at same none size le =
+      let few = listed_few tree (subtree tree values root)
+      (listed_all root values (subtree tree values root) [] at same refl refl) in
+      omega (arith, few, ap length none, size, le)
 
   pub listed_none : (listed : List ℕ) → listed ≡ [] → ((k : ℕ) → cell_at tree k ≢ Some (replicate dims None))
       → AreNodesOf tree listed

@@ -1,7 +1,8 @@
 // All nodes of a tree, found from the root by the edges that lead to children.
 ghost use Rattle.std.specs.FinMap as finmap;
 ghost use Rattle.std.specs.List.{sum_by};
-ghost use Rattle.std.specs.Prelude.{IfOk, IsSome, OnOk, ◌+◌, ◌++◌, ◌≡◌, ◌≤◌};
+ghost use Rattle.std.specs.Prelude.{IfOk, IsSome, OnOk, length, ◌+◌, ◌++◌, ◌≡◌, ◌≤◌};
+ghost use Rattle.std.specs.Vec.{vec_capacity};
 ghost use Rattle.iceberg_query.specs.Subtree.{is_parent_node, numbers, subtree};
 ghost use Rattle.tree_search.specs.Found.{IsTree};
 ghost use Rattle.warehouse.specs.NodeLists.{AreNodesOf, cost_of_listing, visit_cost};
@@ -9,7 +10,7 @@ ghost use Rattle.warehouse.specs.NodeLists.{AreNodesOf, cost_of_listing, visit_c
 use crate::Memory;
 use cell_core::{NodeNo, Steps};
 use qc_arena::{Nodes, QcArena};
-use std::alloc::{AllocError, Global};
+use std::alloc::Global;
 use std::sync::ledger::Ledger;
 
 // Whether the node is the parent of another.
@@ -24,38 +25,35 @@ fn is_parent<L: Ledger>(tree: &QcArena, node: NodeNo, other: NodeNo, steps: &mut
     }
 }
 
-// Appends the node and its descendants with at most so many values more, depth first.
+// Appends the node and its descendants with at most so many values more, depth first. There is room
+// for them.
 fn push_descendants<L: Ledger>(
     tree: &QcArena,
     node: NodeNo,
     values: u8,
     nodes: &mut Vec<NodeNo>,
     steps: &mut Steps<L>,
-) -> Result<(), Memory>
+)
     requires tree { IsTree tree.now.width tree.now.now }
     requires node { IsSome (finmap.get tree.now.now node.0) }
-    ensures nodes { OnOk result (numbers nodes.new.items ≡ numbers nodes.old.items
-        ++ subtree tree.now.now values node.0) }
-    ensures steps { OnOk result (steps.new ≤ steps.old
-        + sum_by (visit_cost tree.now.now) (subtree tree.now.now values node.0)) }
+    requires room { length nodes.old.items + length (subtree tree.now.now values node.0)
+        ≤ vec_capacity nodes.old }
+    ensures nodes { numbers nodes.new.items ≡ numbers nodes.old.items
+        ++ subtree tree.now.now values node.0 }
+    ensures room { vec_capacity nodes.new ≡ vec_capacity nodes.old }
+    ensures steps { steps.new ≤ steps.old
+        + sum_by (visit_cost tree.now.now) (subtree tree.now.now values node.0) }
 {
-    match nodes.push(node) {
-        Ok(()) => {}
-        Err(_) => return Err(AllocError),
-    }
+    nodes.push_reserved(node);
     if values == 0 {
-        return Ok(());
+        return;
     }
     'edges: for k in 0..tree.edge_count(node, steps) {
         let (_dim, _code, target) = tree.edge_at(node, k, steps);
         if is_parent(tree, node, target, steps) {
-            match push_descendants(tree, target, values - 1, nodes, steps) {
-                Ok(()) => {}
-                Err(error) => return Err(error),
-            }
+            push_descendants(tree, target, values - 1, nodes, steps);
         }
     }
-    Ok(())
 }
 
 /// The nodes of a tree, each once. It reads each edge of the tree, and no number without a node.
@@ -70,13 +68,11 @@ pub(crate) fn all_nodes<L: Ledger>(
 {
     let mut nodes = match Vec::with_capacity(alloc, tree.live() as usize) {
         Ok(nodes) => nodes,
-        Err(_) => return Err(AllocError),
+        Err(error) => return Err(error),
     };
     let Some(root) = tree.root(steps) else {
         return Ok(nodes);
     };
-    match push_descendants(tree, root, tree.dims(), &mut nodes, steps) {
-        Ok(()) => Ok(nodes),
-        Err(error) => Err(error),
-    }
+    push_descendants(tree, root, tree.dims(), &mut nodes, steps);
+    Ok(nodes)
 }

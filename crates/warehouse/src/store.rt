@@ -1,11 +1,12 @@
 // The state, the tree of its rows, the index of the tree's classes, and what files do to them.
 ghost use Rattle.std.specs.FinMap as finmap;
 ghost use Rattle.std.specs.Mem.{manually_drop_value};
-ghost use Rattle.std.specs.Prelude.{Err, IfOk, IfSome, List, None, Ok, OnErr, OnOk, Result, length, true, ◌+◌, ◌<◌, ◌≡◌, ◌≤◌};
+ghost use Rattle.std.specs.Prelude.{Err, IfOk, IfSome, IsErr, List, None, Ok, OnErr, OnOk, Result, length, true, ◌+◌, ◌<◌, ◌≡◌, ◌≤◌};
 ghost use Rattle.base_table.specs.Places.{rows_of};
 ghost use Rattle.cell_core.specs.Gives.{Gives};
 ghost use Rattle.csv_load.specs.Batch.{Change};
 ghost use Rattle.csv_load.specs.Faults.{Fault, fault_in};
+ghost use Rattle.csv_load.specs.Files.{batch_in};
 ghost use Rattle.cube_defs.specs.Text.{Text, text_cmp};
 ghost use Rattle.cube_defs.specs.Tree as trees;
 ghost use Rattle.aggregates.specs.declared.kind.AggKind.{AggKind};
@@ -346,6 +347,7 @@ impl Warehouse {
         ensures apart { OnOk result (LeavesOtherRecords self.old bytes.now self.new) }
         ensures touches { OnOk result (HasNoOtherImages self.old bytes.now self.new) }
         ensures steps { OnOk result (IsWithinCost self.old.state bytes.now steps.old steps.new) }
+        ensures unread { IsErr (batch_in self.old.state.schema bytes.now) → steps.new ≡ steps.old }
         ensures valid { AreContents self.new }
         ensures state { OnErr result (self.new.state ≡ self.old.state) }
         ensures tree { OnErr result (self.new.tree ≡ self.old.tree) }
@@ -394,6 +396,7 @@ impl Warehouse {
             × Gives refusal_in (applied_in then) result
             (batches.result self.old.state batches.Apply bytes.now) }
         ensures steps { OnOk result (IsWithinCost self.old.state bytes.now steps.old steps.new) }
+        ensures unread { IsErr (batch_in self.old.state.schema bytes.now) → steps.new ≡ steps.old }
         ensures same { self.new ≡ record self.old { images = finmap.empty } }
         ensures valid { AreContents self.new }
     {

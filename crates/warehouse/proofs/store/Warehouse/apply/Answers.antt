@@ -1,5 +1,5 @@
-use Rattle.std.proofs.Common.{Err, List, Ok, Result, ap, length, refl, subst, sym, ◌+◌, ◌++◌, ◌∙◌, ◌≡◌, ◌≤◌}
-use Rattle.std.specs.Prelude.{IfSome, OnOk}
+use Rattle.std.proofs.Common.{Err, List, Ok, Result, ap, length, refl, subst, sym, true≢false, ◌+◌, ◌++◌, ◌∙◌, ◌≡◌, ◌≤◌}
+use Rattle.std.specs.Prelude.{IfSome, IsErr, OnOk}
 use Rattle.cell_core.specs.Gives.{Gives}
 use Rattle.csv_load.specs.Batch.{Change, deleted, inserted}
 use Rattle.csv_load.specs.Faults.{Fault}
@@ -151,3 +151,11 @@ make_changes-requires-clause-measures g c = c.in-Ok.ensures.measures
 
 pub make_changes-requires-clause-images : goal.make_changes-requires-clause-images
 make_changes-requires-clause-images g c = ap (λ (w : Contents). w.images) c.drop_images.ensures.rest
+
+pub returns-in-Ok-clause-unread : goal.returns-in-Ok-clause-unread
+returns-in-Ok-clause-unread g c = λ h.
+    let state = ap (λ (w : Contents). w.state) (c.self.view_is ∙ c.drop_images.ensures.rest) in
+    let read : batch_in c.args.self.now.state.schema c.args.bytes.now ≡ Ok c.in-Ok.batch.changes
+    = subst (λ (s : State). batch_in s.schema c.args.bytes.now ≡ Ok c.in-Ok.batch.changes) state
+    c.in-Ok.ensures.gives in
+    absurd (true≢false (sym (subst IsErr read h)))

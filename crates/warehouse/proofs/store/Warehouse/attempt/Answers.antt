@@ -1,5 +1,5 @@
-use Rattle.std.proofs.Common.{Err, List, Ok, Result, ap, subst, sym, ◌+◌, ◌∙◌, ◌≡◌, ◌≤◌}
-use Rattle.std.specs.Prelude.{IfSome, OnOk}
+use Rattle.std.proofs.Common.{Err, List, Ok, Result, ap, subst, sym, true≢false, ◌+◌, ◌∙◌, ◌≡◌, ◌≤◌}
+use Rattle.std.specs.Prelude.{IfSome, IsErr, OnOk}
 use Rattle.cell_core.specs.Gives.{Gives}
 use Rattle.csv_load.specs.Batch.{Change}
 use Rattle.csv_load.specs.Faults.{Fault}
@@ -52,3 +52,11 @@ returns-in-Ok-clause-steps g c =
     (subst (λ (w : Contents). OnOk c.attempt_changes.result
     (c.attempt_changes.new.steps ≤ c.args.steps.now + cost_in w.state changes)) c.drop_images.ensures.rest
     c.attempt_changes.ensures.steps)
+
+pub returns-in-Ok-clause-unread : goal.returns-in-Ok-clause-unread
+returns-in-Ok-clause-unread g c = λ h.
+    let state = ap (λ (w : Contents). w.state) (c.self.view_is ∙ c.drop_images.ensures.rest) in
+    let read : batch_in c.args.self.now.state.schema c.args.bytes.now ≡ Ok c.in-Ok.batch.changes
+    = subst (λ (s : State). batch_in s.schema c.args.bytes.now ≡ Ok c.in-Ok.batch.changes) state
+    c.in-Ok.ensures.gives in
+    absurd (true≢false (sym (subst IsErr read h)))
