@@ -9,6 +9,7 @@ ghost use Rattle.pinned_view.specs.Versions.{AreVersions, Version, version_now, 
 ghost use Rattle.pinned_view.specs.Views.{IsViewOf};
 ghost use Rattle.warehouse.specs.Batch as batches;
 ghost use Rattle.warehouse.specs.InPlace.{IsWithinCost, LeavesOtherRecords, LeavesNumbers};
+ghost use Rattle.warehouse.specs.Loading.{cost_of_load};
 ghost use Rattle.warehouse.specs.State.{AreContents, State};
 ghost use Rattle.warehouse.specs.Stored.{applied_in, refusal_in};
 ghost use Rattle.warehouse.specs.Widening as widening;
@@ -175,6 +176,8 @@ impl Pinned {
         requires { length bytes.now ≤ MAX_FILE }
         ensures gives { Gives refusal_in (applied_in self.new.now.state) result
             (batches.result self.old.now.state batches.Load bytes.now) }
+        ensures steps { OnOk result
+            (steps.new ≤ steps.old + cost_of_load self.new.now.state) }
         ensures valid { AreContents self.new.now }
         ensures pins { self.new.pins ≡ self.old.pins }
         ensures err { OnErr result (self.new ≡ self.old) }

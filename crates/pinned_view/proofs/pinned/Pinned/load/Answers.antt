@@ -1,7 +1,8 @@
-use Rattle.std.proofs.Common.{Err, Ok, ap, length, map, refl, subst, sym, ◌∙◌, ◌≡◌}
+use Rattle.std.proofs.Common.{Err, Ok, ap, length, map, refl, subst, sym, ◌∙◌, ◌≡◌, ◌≤◌, ◌+◌}
 use Rattle.std.specs.Prelude.{IfSome}
 use Rattle.warehouse.proofs.CallerLemmas.{taken-of, tree-after}
 use Rattle.warehouse.specs.Batch.{Load, result}
+use Rattle.warehouse.specs.Loading.{cost_of_load}
 use Rattle.warehouse.specs.State.{Contents, State}
 use Rattle.warehouse.specs.Stored.{applied_in, refusal_in}
 use Rattle.pinned_view.specs.Pins.{AreWithin, version_in}
@@ -70,3 +71,8 @@ returns-in-Ok-load-clause-gives g c =
     c.self.view_is
     (subst (λ (now : Contents). result was.state Load file ≡ Ok (applied_in now.state applied))
     (sym c.keep_images.ensures.rest) c.in-Ok-load.ensures.gives)
+
+pub returns-in-Ok-load-clause-steps : goal.returns-in-Ok-load-clause-steps
+returns-in-Ok-load-clause-steps g c =
+    subst (λ (now : Contents). c.load.new.steps ≤ c.args.steps.now + cost_of_load now.state)
+    (sym c.keep_images.ensures.rest) c.in-Ok-load.ensures.steps
