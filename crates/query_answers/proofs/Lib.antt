@@ -3,6 +3,7 @@ mod DecodedClasses
 mod Measured
 mod Pointed
 mod Recoded
+mod RelatedSteps
 mod SomeRows
 mod Taken
 mod Uppers

@@ -4,7 +4,7 @@ use Rattle.std.specs.Prelude.{IfSome, IsSome, option_map, is_some}
 use Rattle.std.specs.FinMap as numbers
 use Rattle.std.specs.Ordering.{nat_cmp, eq_by_cmp}
 use Rattle.std.specs.List.{All}
-use Rattle.cube_laws.proofs.CallerLemmas.{all_among}
+use Rattle.cube_laws.proofs.CallerLemmas.{all_among, closure-coded, code_equality}
 use Rattle.cube_defs.specs.Text.{Text, text_cmp}
 use Rattle.cube_defs.specs.Cell.{Cell}
 use Rattle.cube_defs.specs.Rows.{Fraction, Row, agg}
@@ -22,8 +22,8 @@ use Rattle.value_dict.specs.TextLists.{cell_in}
 use Rattle.value_dict.specs.Decoded.{decoded_cell, decoded_class}
 use Rattle.warehouse.specs.State.{IsState, State, coded_rows, source_of}
 use Rattle.query_answers.specs.Queries.{ask_of, cell_of_fields, scale_of}
-use Rattle.query_answers.specs.Lattice.{related, rollup_answer, upper_of, uppers_text}
-use Rattle.value_dict.proofs.CallerLemmas.{fits, class-told}
+use Rattle.query_answers.specs.Lattice.{code_of, related, rollup_answer, upper_of, uppers_text}
+use Rattle.value_dict.proofs.CallerLemmas.{fits, class-told, places-apart, text_equality}
 use Rattle.cube_laws.specs.Lists.{Among}
 use Rattle.quotient_lattice.specs.DecodedNodes.{decoded_nodes}
 use Rattle.value_dict.specs.Recoded.{decoded_row_list}
@@ -84,6 +84,14 @@ module _ (s : State) (is : IsState s) (lists : List (List Text)) (asked : List F
       sym (uppers-told s.texts (length s.schema.measures) (source_of s).rows (closure_in (source_of s) cell))
       ∙ ap (option_map (λ (h : ClassHit Text). h.upper)) told.value
       ∙ uppers-are (length s.schema.measures) s.rows (upper_of s (cell_of_fields asked))
+
+  pub upper-coded : (cell : Cell ℕ) → Some cell ≡ cell_in lists asked
+      → closure_in (source_of s) cell ≡ option_map (code_of s) (upper_of s (cell_of_fields asked))
+  upper-coded cell e =
+      let at = cell-found s.texts 0 s.texts asked cell (fits s.texts) point (rw same at (sym e)) in
+      ap (closure_in (source_of s)) at.code
+      ∙ closure-coded text_equality code_equality (places-apart s.texts) s.rows (cell_of_fields asked)
+      is.consistent.known at.known
 
   pub upper-none : length asked ≡ length s.schema.dims → None ≡ cell_in lists asked
       → None ≡ upper_of s (cell_of_fields asked)

@@ -1,6 +1,7 @@
 -- What a query is answered: a filter and a sum over the rows of a state.
-use Rattle.std.specs.Prelude.{All, ℕ, ◌≡◌, ◌≤◌, ◌+◌, ◌*◌, ◌^◌, Bool, true, ⊤, Option, Some, None, IfSome, List, length, map, slice_index_or}
+use Rattle.std.specs.Prelude.{All, ℕ, ◌≡◌, ◌≤◌, ◌+◌, ◌*◌, ◌^◌, Bool, true, Option, Some, None, IfSome, List, length, map, slice_index_or}
 use Rattle.std.specs.List.{list_any}
+use Rattle.std.specs.Ordering.{nat_cmp}
 use Rattle.aggregates.specs.declared.kind.AggKind.{AggKind as Kinds}
 use Rattle.aggregates.specs.Views.{fraction_in, kind_in, same_kind}
 use Rattle.cube_defs.specs.Text.{Text, text_cmp, text_eq}
@@ -15,6 +16,7 @@ use Rattle.cell_core.specs.declared.fields.Field.{Field}
 use Rattle.cell_core.specs.declared.fields.Field.TheVariants as fields
 use Rattle.qc_schema.specs.Schema.{Layout, Measure, no_measure}
 use Rattle.iceberg_query.specs.Asked.{bound_in}
+use Rattle.iceberg_query.specs.Costs.{tree_size}
 use Rattle.iceberg_query.specs.Indexed.{class_of_node}
 use Rattle.measure_index.specs.Index.{ranking_of}
 use Rattle.measure_index.specs.Rankings.{IsIndex, Ranking}
@@ -27,8 +29,9 @@ use Rattle.range_query.specs.Work.{work}
 use Rattle.reply_text.specs.Replies.{bounds_reply, iceberg_text, point_reply, range_reply, stats_text}
 use Rattle.value_dict.specs.Boxes.{fields_box}
 use Rattle.value_dict.specs.Decoded.{has_text}
-use Rattle.query_answers.specs.Lattice.{children_answer, parents_answer, rollup_answer}
-use Rattle.warehouse.specs.State.{Contents, HasTree, State, scale_in, with_rows}
+use Rattle.query_answers.specs.Lattice.{children_answer, parents_answer, rollup_answer, steps_of_children, steps_of_parents}
+use Rattle.query_answers.specs.Lattice.{steps_of_rollup}
+use Rattle.warehouse.specs.State.{Contents, HasTree, State, coded_rows, scale_in, with_rows}
 
 -- the tree is that of some rows of the schema, whose texts are among those of now
 pub record IsTreeOfRows (held : Contents) (width : ℕ) (tree : Tree ℕ) : Type 0 where
@@ -107,6 +110,10 @@ names_kind schema kind = list_any (same_kind kind) schema.indexes
 abbrev pub steps_of_class : Layout → ℕ
 steps_of_class schema = 32 * (length schema.dims + 1) ^ 2 * 2 ^ length schema.dims
 
+-- and a walk over the tree, which is that of the rows by codes
+abbrev pub steps_of_walk : State → ℕ
+steps_of_walk state = 2 * tree_size nat_cmp (coded_rows state) + 1
+
 -- the answer to `iceberg`
 abbrev pub iceberg_answer : State → ℕ → AggKind → Bound → Fraction → List ℕ
 iceberg_answer state line kind bound value = iceberg_text line state.schema.measures (classes_of state kind bound value)
@@ -141,6 +148,10 @@ IsWithinSteps state has_index (queries.Iceberg kind bound value) before after =
     has_index kind ≡ true → after ≤ before
     + length (classes_of state (kind_in kind) (bound_in bound) (fraction_in value)) * steps_of_class state.schema
 IsWithinSteps state has_index queries.Stats before after = after ≤ before
-IsWithinSteps state has_index (queries.Parents asked) before after = ⊤
-IsWithinSteps state has_index (queries.Children asked) before after = ⊤
-IsWithinSteps state has_index (queries.Rollup kind bound value asked) before after = ⊤
+IsWithinSteps state has_index (queries.Parents asked) before after
+    = after ≤ before + steps_of_parents state (cell_of_fields asked)
+IsWithinSteps state has_index (queries.Children asked) before after
+    = after ≤ before + steps_of_children state (cell_of_fields asked)
+IsWithinSteps state has_index (queries.Rollup kind bound value asked) before after =
+    after ≤ before + steps_of_rollup state
+    (ask_of state.schema.measures (kind_in kind) (bound_in bound) (fraction_in value)) (cell_of_fields asked)

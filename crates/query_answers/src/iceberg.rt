@@ -13,7 +13,7 @@ ghost use Rattle.qc_schema.specs.Schema.{IsLayout};
 ghost use Rattle.query_script.specs.Commands.{IsMeasured};
 ghost use Rattle.reply_text.specs.Words.{reply_bytes};
 ghost use Rattle.value_dict.specs.Decoded.{IsDecodableClass};
-ghost use Rattle.query_answers.specs.Queries.{IsSource, classes_of, iceberg_answer, scale_of, steps_of_class};
+ghost use Rattle.query_answers.specs.Queries.{IsSource, classes_of, iceberg_answer, scale_of, steps_of_class, steps_of_walk};
 ghost use Rattle.warehouse.specs.State.{HasTree, with_rows};
 
 use crate::source::{Condition, Source};
@@ -73,6 +73,11 @@ fn find_classes<T: Nodes, L: Ledger>(
     ensures steps { IsSome (ranking_of condition.kind source.now.index.now) →
         IfOk result (λ classes. steps.new ≤ steps.old
         + length classes.items * steps_of_class source.now.warehouse.now.state.schema) }
+    ensures walked { (rows : List (Row Text)) →
+        HasTree (with_rows source.now.warehouse.now.state rows) (T.tree source.now.tree.now) →
+        IfOk result (λ classes. steps.new ≤ steps.old
+        + (length classes.items * steps_of_class source.now.warehouse.now.state.schema
+        + steps_of_walk (with_rows source.now.warehouse.now.state rows))) }
 {
     let ask = Ask {
         kind: condition.kind,
@@ -91,8 +96,8 @@ fn find_classes<T: Nodes, L: Ledger>(
 }
 
 /// Reports the classes whose value, in the unit of the measure, is at least or at most the given
-/// one. If the index has the kind, it reads no more of the tree than these classes. With n
-/// dimensions it then takes at most 32 (n + 1)^2 2^n steps for each.
+/// one. With n dimensions it takes at most 32 (n + 1)^2 2^n steps for each of these classes. If no
+/// index has the kind, it also walks over the tree.
 pub(crate) fn answer_iceberg<T: Nodes, L: Ledger>(
     alloc: Global,
     source: &Source<T>,
@@ -116,6 +121,13 @@ pub(crate) fn answer_iceberg<T: Nodes, L: Ledger>(
         + length (classes_of (with_rows source.now.warehouse.now.state rows)
         (kind_in condition.kind) (bound_in condition.bound) (fraction_in condition.value))
         * steps_of_class source.now.warehouse.now.state.schema) }
+    ensures walked { (rows : List (Row Text)) →
+        HasTree (with_rows source.now.warehouse.now.state rows) (T.tree source.now.tree.now) →
+        IfOk result (λ _. steps.new ≤ steps.old
+        + (length (classes_of (with_rows source.now.warehouse.now.state rows)
+        (kind_in condition.kind) (bound_in condition.bound) (fraction_in condition.value))
+        * steps_of_class source.now.warehouse.now.state.schema
+        + steps_of_walk (with_rows source.now.warehouse.now.state rows))) }
 {
     let classes = find_classes(alloc, source, condition, steps)?;
     let reply = iceberg_reply(

@@ -82,3 +82,9 @@ returns-clause-told g c =
 
 pub returns-clause-steps : goal.returns-clause-steps
 returns-clause-steps g c = λ there. rw (← c.requires.source.rows.wide) (c.iceberg.ensures.steps there)
+
+pub returns-clause-walked : goal.returns-clause-walked
+returns-clause-walked g c = λ rows has.
+    rw (← c.requires.source.rows.wide)
+    (c.iceberg.ensures.walked (source_of (with_rows c.args.source.now.warehouse.now.state rows))
+    (tree-of _ _ _ c.requires.source.rows rows has))

@@ -26,7 +26,7 @@ iceberg_reply-requires g c =
     let nodes = c.args.nodes.now in
     let classes = c.in_ok-classes.classes.items in
     let known = rows-known s has.state dict.lists c.dict-dict.ensures.texts in
-    let e = c.in_ok-classes.ensures source (tree-of _ _ _ c.requires.source.rows rows has) in
+    let e = c.in_ok-classes.ensures.classes source (tree-of _ _ _ c.requires.source.rows rows has) in
     let told = alone_tellable _ tree dict source (tree-of _ _ _ c.requires.source.rows rows has)
     c.dims-dims.ensures.dictionary known (ap length c.dict-dict.ensures.texts
     ∙ c.dict-dict.ensures.valid.state.consistent.lists ∙ sym c.requires.source.rows.wide) nodes classes
@@ -36,8 +36,8 @@ iceberg_reply-requires g c =
     (subst (λ (l : Layout). All (λ class. IsDecodableClass dict.lists (length l.measures) (hit_in class)) classes)
     (sym c.schema.ensures.value) told)
 
-pub returns : goal.returns
-returns g c = λ rows has.
+pub returns-clause-reply : goal.returns-clause-reply
+returns-clause-reply g c = λ rows has.
     let s = with_rows c.args.source.now.warehouse.now.state rows in
     let tree = g.T.Nodes.tree c.args.source.now.tree.now in
     let source = source_of s in
@@ -45,7 +45,7 @@ returns g c = λ rows has.
     let nodes = c.args.nodes.now in
     let classes = c.in_ok-classes.classes.items in
     let known = rows-known s has.state dict.lists c.dict-dict.ensures.texts in
-    let e = c.in_ok-classes.ensures source (tree-of _ _ _ c.requires.source.rows rows has) in
+    let e = c.in_ok-classes.ensures.classes source (tree-of _ _ _ c.requires.source.rows rows has) in
     let told = alone_told _ tree dict source (tree-of _ _ _ c.requires.source.rows rows has)
     c.dims-dims.ensures.dictionary known (ap length c.dict-dict.ensures.texts
     ∙ c.dict-dict.ensures.valid.state.consistent.lists ∙ sym c.requires.source.rows.wide) nodes classes
@@ -61,3 +61,12 @@ returns g c = λ rows has.
     ∙ ap (λ lists. iceberg_text c.args.number s.schema.measures
     (map (class_alone text_cmp (length s.schema.measures) s.rows) (decoded_nodes lists tree nodes)))
     c.dict-dict.ensures.texts
+
+pub returns-in_err-classes-clause-steps : goal.returns-in_err-classes-clause-steps
+returns-in_err-classes-clause-steps g c = rw (← c.requires.source.rows.wide) c.in_err-classes.ensures.steps
+
+pub returns-in_err-reply-clause-steps : goal.returns-in_err-reply-clause-steps
+returns-in_err-reply-clause-steps g c = rw (← c.requires.source.rows.wide) c.in_ok-classes.ensures.steps
+
+pub returns-clause-steps : goal.returns-clause-steps
+returns-clause-steps g c = rw (← c.requires.source.rows.wide) c.in_ok-classes.ensures.steps

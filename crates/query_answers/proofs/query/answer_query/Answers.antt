@@ -53,22 +53,22 @@ returns-in-Stats-clause-steps g c = rw c.in-Stats.is (λ rows has. none-more c.a
 
 pub returns-in-Parents : goal.returns-in-Parents
 returns-in-Parents g c = rw c.in-Parents.is (record {
-  reply = λ rows has counted. c.answer_parents.ensures rows has;
-  steps = λ rows has. on-ok c.answer_parents.result _ tt;
+  reply = λ rows has counted. c.answer_parents.ensures.reply rows has;
+  steps = λ rows has. on-ok c.answer_parents.result _ (c.answer_parents.ensures.steps rows has);
   memory = on-err c.answer_parents.result (λ e. absurd (cc e));
 })
 
 pub returns-in-Children : goal.returns-in-Children
 returns-in-Children g c = rw c.in-Children.is (record {
-  reply = λ rows has counted. c.answer_children.ensures rows has;
-  steps = λ rows has. on-ok c.answer_children.result _ tt;
+  reply = λ rows has counted. c.answer_children.ensures.reply rows has;
+  steps = λ rows has. on-ok c.answer_children.result _ (c.answer_children.ensures.steps rows has);
   memory = on-err c.answer_children.result (λ e. absurd (cc e));
 })
 
 pub returns-in-Rollup : goal.returns-in-Rollup
 returns-in-Rollup g c = rw c.in-Rollup.is (record {
-  reply = λ rows has counted. c.answer_rollup.ensures rows has;
-  steps = λ rows has. on-ok c.answer_rollup.result _ tt;
+  reply = λ rows has counted. c.answer_rollup.ensures.reply rows has;
+  steps = λ rows has. on-ok c.answer_rollup.result _ (c.answer_rollup.ensures.steps rows has);
   memory = on-err c.answer_rollup.result (λ e. absurd (cc e));
 })
 
