@@ -59,31 +59,16 @@ named-in (kinds.Least m) = refl
 named-in (kinds.Greatest m) = refl
 named-in (kinds.Mean m) = refl
 
--- where something is said only if an index is named
-if-named : (b : Bool) (most from to : ℕ) → (b ≡ true → to ≤ from + most)
-    → IsWithin (if b then Some most else None) from to
-if-named true most from to h = h refl
-if-named false most from to h = tt
-
 pub query-within : (s : State) (has_index : AggKind → Bool) (query : Query) (from to : ℕ)
-    → IsWithinSteps s has_index query from to → IsWithin (query_cost s has_index (query_in query)) from to
+    → IsWithinSteps s has_index query from to → to ≤ from + query_cost s has_index (query_in query)
 query-within s has_index (queries.Point asked) from to w = w
 query-within s has_index (queries.Range asked) from to w = w
 query-within s has_index (queries.Bounds asked) from to w = w
-query-within s has_index (queries.Iceberg kind bound value) from to w
-    = rw (named-in kind) (if-named (has_index kind) _ from to w)
+query-within s has_index (queries.Iceberg kind bound value) from to w = rw (named-in kind) w
 query-within s has_index queries.Stats from to w = omega (arith, w)
-query-within s has_index query from to w = tt
-
--- the same of a query that no index answers
-pub bare-within : (s : State) (has_index : AggKind → Bool) (query : Query) (from to : ℕ)
-    → IsWithinSteps s has_index query from to → IsWithin (query_cost s (λ kind. false) (query_in query)) from to
-bare-within s has_index (queries.Point asked) from to w = w
-bare-within s has_index (queries.Range asked) from to w = w
-bare-within s has_index (queries.Bounds asked) from to w = w
-bare-within s has_index (queries.Iceberg kind bound value) from to w = tt
-bare-within s has_index queries.Stats from to w = omega (arith, w)
-bare-within s has_index query from to w = tt
+query-within s has_index (queries.Parents asked) from to w = w
+query-within s has_index (queries.Children asked) from to w = w
+query-within s has_index (queries.Rollup kind bound value asked) from to w = w
 
 -- where a name is pinned, no dimension comes
 pub pinned-within : (s : State) (pins : List Version) (name value : Text) (n : ℕ) → 0 < length pins

@@ -11,7 +11,8 @@ use Rattle.cube_defs.specs.Rows.{Row}
 use Rattle.cube_defs.specs.Text.{Text}
 use Rattle.cube_defs.specs.declared.limits.TheConstants.{MAX_FILE}
 use Rattle.qc_io.specs.Outside.{FileContents}
-use Rattle.query_answers.specs.Queries.{classes_of, names_kind, steps_of_class, work_of}
+use Rattle.query_answers.specs.Lattice.{steps_of_children, steps_of_parents, steps_of_rollup}
+use Rattle.query_answers.specs.Queries.{ask_of, cell_of_fields, names_kind, steps_of_iceberg, work_of}
 use Rattle.query_script.specs.Commands.{command_in}
 use Rattle.query_script.specs.Faults.{LineFault}
 use Rattle.query_script.specs.Queries as queries
@@ -49,22 +50,21 @@ named_kind (Least m) = kinds.Least m
 named_kind (Greatest m) = kinds.Greatest m
 named_kind (Mean m) = kinds.Mean m
 
--- A query of a state's rows, by the kinds that have an index. No bound is claimed of an iceberg without an index, and of
--- the other queries: `parents`, `children` and `rollup`.
-abbrev pub query_cost : State → (declared.AggKind → Bool) → Query → Option ℕ
-query_cost s has_index (queries.Point asked) = Some (2 * length s.schema.dims + 3)
-query_cost s has_index (queries.Range asked) = Some (3 * (1 + work_of s asked))
-query_cost s has_index (queries.Bounds asked) = Some (7 * (length s.schema.dims + 1) * 2 ^ length s.schema.dims)
-query_cost s has_index (queries.Iceberg kind bound value) =
-    if has_index (named_kind kind)
-    then Some (length (classes_of s kind bound value) * steps_of_class s.schema)
-    else None
-query_cost s has_index queries.Stats = Some 0
-query_cost s has_index query = None
+-- a query of a state's rows, by the kinds that have an index
+abbrev pub query_cost : State → (declared.AggKind → Bool) → Query → ℕ
+query_cost s has_index (queries.Point asked) = 2 * length s.schema.dims + 3
+query_cost s has_index (queries.Range asked) = 3 * (1 + work_of s asked)
+query_cost s has_index (queries.Bounds asked) = 7 * (length s.schema.dims + 1) * 2 ^ length s.schema.dims
+query_cost s has_index (queries.Iceberg kind bound value) = steps_of_iceberg s (has_index (named_kind kind)) kind bound value
+query_cost s has_index queries.Stats = 0
+query_cost s has_index (queries.Parents asked) = steps_of_parents s (cell_of_fields asked)
+query_cost s has_index (queries.Children asked) = steps_of_children s (cell_of_fields asked)
+query_cost s has_index (queries.Rollup kind bound value asked)
+    = steps_of_rollup s (ask_of s.schema.measures kind bound value) (cell_of_fields asked)
 
 -- a query of the rows of a pin, which have no index; a name that isn't pinned is refused at once
-abbrev pub cost_over : State → Query → Option (List (Row Text)) → Option ℕ
-cost_over s query None = Some 0
+abbrev pub cost_over : State → Query → Option (List (Row Text)) → ℕ
+cost_over s query None = 0
 cost_over s query (Some rows) = query_cost (with_rows s rows) (λ kind. false) query
 
 -- the changes of a batch that a state takes; a file that is no batch takes no step, and no bound is claimed of changes
@@ -115,8 +115,8 @@ question_cost s told (Ok (asks.Try name)) = file_cost Apply s.state (told name)
 question_cost s told (Ok (asks.Widen name value)) = widen_cost s.state s.pins name value
 question_cost s told (Ok (asks.Pin name)) = Some 0
 question_cost s told (Ok (asks.Unpin name)) = Some 0
-question_cost s told (Ok (asks.At name query)) = cost_over s.state query (rows_at s.pins name)
-question_cost s told (Ok (asks.Ask query)) = query_cost s.state (names_kind s.state.schema) query
+question_cost s told (Ok (asks.At name query)) = Some (cost_over s.state query (rows_at s.pins name))
+question_cost s told (Ok (asks.Ask query)) = Some (query_cost s.state (names_kind s.state.schema) query)
 
 -- a line that is answered
 abbrev pub line_cost : PinnedState → FileContents → List ℕ → Option ℕ

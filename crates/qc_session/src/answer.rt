@@ -1,5 +1,5 @@
 // The answer to one line.
-ghost use Rattle.std.specs.Prelude.{Err, IfErr, IsErr, IfOk, IfSome, IsTrue, None, Ok, OnErr, OnOk, Some, length, option_map, true, ⊤, ◌≡◌, ◌≢◌, ◌≤◌};
+ghost use Rattle.std.specs.Prelude.{Err, IfErr, IsErr, IfOk, IfSome, IsTrue, None, Ok, OnErr, OnOk, Some, length, option_map, true, ⊤, ◌≡◌, ◌≢◌, ◌≤◌, ◌+◌};
 ghost use Rattle.csv_load.specs.Files.{batch_in};
 ghost use Rattle.qc_io.specs.Outside.{Rose, FileContents};
 ghost use Rattle.query_script.specs.Commands.{IsQuestion, wants_memory};
@@ -195,8 +195,8 @@ fn present_reply<L: Ledger>(
         (λ reply. reply_bytes reply ≡ query_reply pinned.now.now.state number (query_in query)) }
     ensures memory { OnErr result (query_in query ≢ queries.Stats) }
     ensures steps { OnOk result
-        (IsWithin (query_cost pinned.now.now.state (names_kind pinned.now.now.state.schema)
-        (query_in query)) steps.old steps.new) }
+        (steps.new ≤ steps.old + query_cost pinned.now.now.state
+        (names_kind pinned.now.now.state.schema) (query_in query)) }
 {
     answer_present(alloc, pinned.now(), number, &query, steps)
 }

@@ -1,9 +1,9 @@
 // Names for the present rows, and queries of the rows of a name.
-ghost use Rattle.std.specs.Prelude.{IfOk, OnOk, length, ◌≡◌, ◌≤◌};
+ghost use Rattle.std.specs.Prelude.{IfOk, OnOk, length, ◌≡◌, ◌≤◌, ◌+◌};
 ghost use Rattle.query_script.specs.Commands.{IsQuery};
 ghost use Rattle.query_script.specs.Queries.{query_in};
 ghost use Rattle.reply_text.specs.Words.{reply_bytes};
-ghost use Rattle.qc_session.specs.Costs.{IsWithin, cost_over};
+ghost use Rattle.qc_session.specs.Costs.{cost_over};
 ghost use Rattle.qc_session.specs.Pins.{at_reply, pinned_state_in, pin_answer, rows_at, unpin_answer};
 
 use cell_core::{Memory, Steps, Text};
@@ -60,8 +60,8 @@ pub fn answer_at<L: Ledger>(
     requires { IsQuery held.now.now.state.schema (query_in query) }
     ensures reply { IfOk result (λ reply. reply_bytes reply ≡ at_reply (pinned_state_in held.now)
         number name.now (query_in query)) }
-    ensures steps { OnOk result (IsWithin (cost_over held.now.now.state (query_in query)
-        (rows_at (pinned_state_in held.now).pins name.now)) steps.old steps.new) }
+    ensures steps { OnOk result (steps.new ≤ steps.old + cost_over held.now.now.state
+        (query_in query) (rows_at (pinned_state_in held.now).pins name.now)) }
 {
     let Some(view) = held.view(name.as_str()) else {
         drop(query);

@@ -1,5 +1,6 @@
 -- What a query is answered: a filter and a sum over the rows of a state.
-use Rattle.std.specs.Prelude.{All, ℕ, ◌≡◌, ◌≤◌, ◌+◌, ◌*◌, ◌^◌, Bool, true, Option, Some, None, IfSome, List, length, map, slice_index_or}
+use Rattle.std.specs.Prelude.{All, ℕ, ◌≡◌, ◌≤◌, ◌+◌, ◌*◌, ◌^◌, Bool, Option, Some, None, IfSome, List, length, map, slice_index_or}
+use Rattle.std.specs.Prelude.{if◌then◌else◌}
 use Rattle.std.specs.List.{list_any}
 use Rattle.std.specs.Ordering.{nat_cmp}
 use Rattle.aggregates.specs.declared.kind.AggKind.{AggKind as Kinds}
@@ -114,6 +115,11 @@ steps_of_class schema = 32 * (length schema.dims + 1) ^ 2 * 2 ^ length schema.di
 abbrev pub steps_of_walk : State → ℕ
 steps_of_walk state = 2 * tree_size nat_cmp (coded_rows state) + 1
 
+-- the most steps of `iceberg`: those of each class of the answer, and a walk if no index has the kind
+abbrev pub steps_of_iceberg : State → Bool → AggKind → Bound → Fraction → ℕ
+steps_of_iceberg state has_index kind bound value = length (classes_of state kind bound value) * steps_of_class state.schema
+    + (if has_index then 0 else steps_of_walk state)
+
 -- the answer to `iceberg`
 abbrev pub iceberg_answer : State → ℕ → AggKind → Bound → Fraction → List ℕ
 iceberg_answer state line kind bound value = iceberg_text line state.schema.measures (classes_of state kind bound value)
@@ -137,16 +143,15 @@ query_reply state line (asks.Children asked) = children_answer state line (cell_
 query_reply state line (asks.Rollup kind bound value asked)
     = rollup_answer state line (ask_of state.schema.measures kind bound value) (cell_of_fields asked)
 
--- the steps before an answer and after it are no further apart than is promised of the query; an iceberg is told so of
--- a kind that has an index
+-- the steps before an answer and after it are no further apart than is promised of the query, by the kinds that have
+-- an index
 abbrev pub IsWithinSteps : State → (Kinds → Bool) → code.Query → ℕ → ℕ → Type 0
 IsWithinSteps state has_index (queries.Point asked) before after = after ≤ before + (2 * length state.schema.dims + 3)
 IsWithinSteps state has_index (queries.Range asked) before after = after ≤ before + 3 * (1 + work_of state asked)
 IsWithinSteps state has_index (queries.Bounds asked) before after
     = after ≤ before + 7 * (length state.schema.dims + 1) * 2 ^ length state.schema.dims
-IsWithinSteps state has_index (queries.Iceberg kind bound value) before after =
-    has_index kind ≡ true → after ≤ before
-    + length (classes_of state (kind_in kind) (bound_in bound) (fraction_in value)) * steps_of_class state.schema
+IsWithinSteps state has_index (queries.Iceberg kind bound value) before after = after ≤ before
+    + steps_of_iceberg state (has_index kind) (kind_in kind) (bound_in bound) (fraction_in value)
 IsWithinSteps state has_index queries.Stats before after = after ≤ before
 IsWithinSteps state has_index (queries.Parents asked) before after
     = after ≤ before + steps_of_parents state (cell_of_fields asked)

@@ -1,5 +1,5 @@
-use Rattle.std.proofs.Common.{◌≡◌, ◌≤◌, ℕ, Option, Some, None, true, arith, rules}
-use Rattle.std.specs.Prelude.{Err, IfOk, IsSome, Ok, OnErr, OnOk, Result, is_some}
+use Rattle.std.proofs.Common.{◌≤◌, ◌+◌, ℕ, Option, Some, None, arith, rules}
+use Rattle.std.specs.Prelude.{Err, IfOk, IsSome, Ok, OnErr, OnOk, Result, if◌then◌else◌, is_some}
 use Rattle.query_answers.proofs.query.answer_query.Goals as goal
 
 on-ok : {T E : Type 0} (r : Result T E) (P : Type 0) → P → OnOk r P
@@ -13,12 +13,13 @@ on-err (Err e) p = p
 none-more : (n : ℕ) → n ≤ n
 none-more n = omega arith
 
--- what holds where there is a ranking
-ranked : {T E X : Type 0} (r : Result T E) (o : Option X) (P : Type 0) → (IsSome o → IfOk r (λ _. P))
-    → OnOk r (is_some o ≡ true → P)
-ranked (Ok x) None P h = λ e. cc
-ranked (Ok x) (Some y) P h = λ e. h (search rules)
-ranked (Err e) o P h = tt
+-- what holds where there is a ranking, and where there is none
+either : {T E X : Type 0} (r : Result T E) (o : Option X) (from to each walk : ℕ)
+    → (IsSome o → IfOk r (λ _. to ≤ from + each)) → IfOk r (λ _. to ≤ from + (each + walk))
+    → OnOk r (to ≤ from + (each + (if is_some o then 0 else walk)))
+either (Ok x) None from to each walk ranked walked = walked
+either (Ok x) (Some y) from to each walk ranked walked = let within = ranked (search rules) in omega (arith, within)
+either (Err e) o from to each walk ranked walked = tt
 
 pub returns-in-Point : goal.returns-in-Point
 returns-in-Point g c = rw c.in-Point.is (record {
@@ -44,7 +45,8 @@ returns-in-Bounds g c = rw c.in-Bounds.is (record {
 pub returns-in-Iceberg : goal.returns-in-Iceberg
 returns-in-Iceberg g c = rw c.in-Iceberg.is (record {
   reply = λ rows has counted. c.answer_iceberg.ensures.reply rows has;
-  steps = λ rows has. ranked c.answer_iceberg.result _ _ (λ there. c.answer_iceberg.ensures.steps there rows has);
+  steps = λ rows has. either c.answer_iceberg.result _ _ _ _ _ (λ there. c.answer_iceberg.ensures.steps there rows has)
+      (c.answer_iceberg.ensures.walked rows has);
   memory = on-err c.answer_iceberg.result (λ e. absurd (cc e));
 })
 
