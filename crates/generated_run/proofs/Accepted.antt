@@ -106,7 +106,7 @@ rows-then old new k d
     filter (λ (row : Row Text). not (is_among row.id ids)) old ++ rows) (deleted-ids k d new) (inserted-rows k d new)
 
 -- the state of the draws after so many rows more
-draws-then : (a b c s : ℕ) → a + b ≡ c → after_rows b (after_rows a s) ≡ after_rows c s
+pub draws-then : (a b c s : ℕ) → a + b ≡ c → after_rows b (after_rows a s) ≡ after_rows c s
 draws-then a b c s e = sym (more-draws a b s) ∙ ap (λ (n : ℕ). after_rows n s) e
 
 rows-next : (n k before seed : ℕ) → k ≤ n

@@ -1,9 +1,12 @@
 // A whole generated run.
 ghost use Rattle.std.specs.Prelude.{IfOk, OnOk, ◌≡◌, ◌≤◌};
 ghost use Rattle.cube_defs.specs.declared.limits.TheConstants.{MAX_ROWS};
-ghost use Rattle.generated_run.specs.Generated.{filled, generated_record, generated_state, record_text};
+ghost use Rattle.generated_run.specs.Generated.{generated_record, generated_state, record_text};
+ghost use Rattle.row_generator.specs.Drawn.{layout};
+ghost use Rattle.warehouse.specs.State.{empty};
 
 use crate::files::{apply_batches, load_base, new_warehouse};
+use crate::laws::no_generated_file_is_refused;
 use crate::run_record::write_record;
 use cell_core::Steps;
 use cube_defs::Memory;
@@ -20,7 +23,8 @@ pub struct Generated {
     pub text: Vec<u8>,
 }
 
-// Loads the base file, applies the batches, and gives the record of the warehouse then.
+// Loads the base file into an empty warehouse, applies the batches, and gives the record of the
+// warehouse then.
 fn fill<L: Ledger>(
     alloc: Global,
     warehouse: &mut Warehouse,
@@ -28,14 +32,16 @@ fn fill<L: Ledger>(
     seed: u64,
     steps: &mut Steps<L>,
 ) -> Result<Vec<u8>, Memory>
-    requires { rows ≤ MAX_ROWS }
-    ensures state { OnOk result (warehouse.new.state ≡ filled rows seed warehouse.old.state) }
+    requires rows { rows ≤ MAX_ROWS }
+    requires state { warehouse.old.state ≡ empty layout }
+    ensures state { OnOk result (warehouse.new.state ≡ generated_state rows seed) }
     ensures text { IfOk result (λ text. text.items ≡ record_text rows seed warehouse.new.state) }
 {
+    no_generated_file_is_refused();
     let mut draws = Draws { state: seed };
     let mut file = Vec::new(alloc);
     load_base(warehouse, rows, &mut draws, &mut file, steps)?;
-    apply_batches(warehouse, rows, &mut draws, &mut file, steps)?;
+    apply_batches(warehouse, rows, seed, &mut draws, &mut file, steps)?;
     write_record(alloc, &mut file, rows, seed, warehouse, steps)?;
     Ok(file)
 }

@@ -1,9 +1,10 @@
-use Rattle.std.proofs.Common.{◌≡◌, ◌-◌}
-use Rattle.generated_run.specs.Generated.{batches_taken}
-use Rattle.row_generator.specs.declared.files.TheConstants.{BATCHES}
+use Rattle.std.proofs.Common.{◌≡◌, ◌+◌, ◌*◌}
+use Rattle.generated_run.specs.Generated.{state_before}
+use Rattle.row_generator.specs.Generator.{after_rows, batch_rows}
 use Rattle.generated_run.proofs.files.apply_batches.Given as goal
 
--- what is to come leads on to the whole
 abbrev pub invariant-batches : goal.invariant-batches
-invariant-batches g l = batches_taken (BATCHES - l.before) l.rows l.before l.draws.state l.warehouse.state
-    ≡ batches_taken BATCHES l.rows 0 l.fn.draws.state l.fn.warehouse.state
+invariant-batches g l = record {
+  draws : l.draws.state ≡ after_rows (l.rows + l.before * batch_rows l.rows) l.seed;
+  state : l.warehouse.state ≡ state_before l.rows l.seed l.before;
+}
