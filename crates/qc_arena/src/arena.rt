@@ -13,6 +13,7 @@ ghost use Rattle.qc_arena.specs.Changes.{AreNew, class_now, class_was};
 ghost use Rattle.qc_arena.specs.Edges.{with_edge, without_edge};
 ghost use Rattle.qc_arena.specs.Map.{AreRooted, CanChange, IsPlace, edges_in, frame, is_open, is_touched, new_record, no_nodes, overlaid, shape_of, was_at, with_class, with_forced};
 ghost use Rattle.qc_arena.specs.RecordReaders.{edge_of, record_at};
+ghost use Rattle.qc_arena.specs.Resized.{resized};
 
 use crate::Memory;
 use crate::class_changes::{changed, class_in_place};
@@ -394,7 +395,8 @@ impl QcArena {
     }
 
     /// Closes the batch. Its changes stay. The before-images stay until the next batch, or until
-    /// they are moved out. They are of no use if the batch added a dimension.
+    /// they are moved out. If the batch added a dimension, they have it too. Cut to the dimensions at
+    /// `begin`, each is the record that its number had then.
     pub fn commit(&mut self)
         requires { is_open self.old ≡ true }
         ensures value { self.new ≡ record self.old {
@@ -406,6 +408,9 @@ impl QcArena {
         ensures last { IfSome self.old.was (λ shape. shape.width ≡ self.old.width →
             (q : ℕ) → map.get self.new.last q ≡ (if is_touched self.old q
             then Some (was_at self.old q) else None)) }
+        ensures cut { IfSome self.old.was (λ shape. (q : ℕ)
+            → option_map (option_map (resized shape.width)) (map.get self.new.last q)
+            ≡ (if is_touched self.old q then Some (was_at self.old q) else None)) }
         ensures back { IfSome self.old.was (λ shape. shape.width ≡ self.old.width
             → overlaid self.new.last self.new.now ≡ shape.tree) }
     {
