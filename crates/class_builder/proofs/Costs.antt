@@ -13,8 +13,7 @@ use Rattle.cube_defs.specs.Rows.{Row}
 use Rattle.cube_defs.specs.Tree.{cell_at, renamed_edge}
 use Rattle.cube_laws.specs.Lists.{Among}
 use Rattle.cube_laws.proofs.CallerLemmas.{among_left, cell_eq-same, map_among, nat_equality, shared_some}
-use Rattle.tree_laws.proofs.CallerLemmas.{entry_get, some_same, sum_alike, sum_by-map}
-use Rattle.tree_laws.proofs.Entries.{get_entry}
+use Rattle.tree_laws.proofs.CallerLemmas.{entry_get, get_entry, some_same, sum_alike, sum_by-map}
 use Rattle.build_trace.specs.Trace.{Act, Act.{Add, Label, Mark}, Put, adds_of, labels_of, put_of, puts_of}
 use Rattle.build_trace.specs.Follows.{cell_by}
 use Rattle.build_trace.proofs.CallerLemmas.{act_node}

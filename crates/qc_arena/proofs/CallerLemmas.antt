@@ -1,5 +1,6 @@
 -- The lemmas that other crates cite.
 pub use Rattle.qc_arena.proofs.ArenaSteps.{can_again}
+pub use Rattle.qc_arena.proofs.Counting.{both-kinds}
 pub use Rattle.qc_arena.proofs.Imaged.{get-over}
 pub use Rattle.qc_arena.proofs.ImagesOver.{or_twice, over_both}
 pub use Rattle.qc_arena.proofs.TotalsSteps.{none_there, some_map}

@@ -395,8 +395,8 @@ impl QcArena {
     }
 
     /// Closes the batch. Its changes stay. The before-images stay until the next batch, or until
-    /// they are moved out. If the batch added a dimension, they have it too. Cut to the dimensions at
-    /// `begin`, each is the record that its number had then.
+    /// they are moved out. If the batch added a dimension, they have it too. Cut to the dimensions
+    /// at `begin`, each is the record that its number had then.
     pub fn commit(&mut self)
         requires { is_open self.old ≡ true }
         ensures value { self.new ≡ record self.old {

@@ -33,7 +33,8 @@ use Rattle.warehouse.specs.Stored.{applied_in, refusal_in}
 use Rattle.warehouse.specs.declared.refused.Applied as code
 use Rattle.warehouse.specs.declared.refused.Refused.{Refused}
 use Rattle.warehouse.specs.Widening.{WidenRefusal, cost_of_widening, widen_result}
-use Rattle.qc_session.specs.Costs.{Costed, IsWithin, IsWithinScript, batch_cost, both_costs, bytes_cost, changes_cost, costed_step, file_cost}
+use Rattle.qc_session.specs.Costs.{Costed, IsWithin, IsWithinScript, batch_cost, both_costs, bytes_cost, changes_cost, costed_step}
+use Rattle.qc_session.specs.Costs.{file_cost}
 use Rattle.qc_session.specs.Costs.{item_cost, line_cost, named_kind, query_cost, script_cost, whole_cost, widen_cost, widening_cost}
 use Rattle.qc_session.specs.Forms.{FileNames}
 use Rattle.qc_session.specs.Lines.{is_passed, script_lines}
@@ -107,18 +108,18 @@ batch-within s bytes applied from to does w = rw does (by (batch_in s.schema byt
     by (Err fault) read = absurd (fault-not-taken s fault applied (rw read at does))
     by (Ok changes) read = w changes read
 
-pub applied-within : (r : Result code.Applied Refused) (s : State) (bytes : List ℕ) (then : State) (from to : ℕ)
-    → Gives refusal_in (applied_in then) r (result s batches.Apply bytes) → OnOk r (IsWithinCost s bytes from to)
+pub applied-within : (r : Result code.Applied Refused) (s : State) (bytes : List ℕ) (after : State) (from to : ℕ)
+    → Gives refusal_in (applied_in after) r (result s batches.Apply bytes) → OnOk r (IsWithinCost s bytes from to)
     → OnOk r (IsWithin (bytes_cost batches.Apply s bytes) from to)
-applied-within (Ok applied) s bytes then from to gives w = batch-within s bytes (applied_in then applied) from to gives w
-applied-within (Err refused) s bytes then from to gives w = tt
+applied-within (Ok applied) s bytes after from to gives w = batch-within s bytes (applied_in after applied) from to gives w
+applied-within (Err refused) s bytes after from to gives w = tt
 
 -- a base file that was taken
-pub loaded-within : (r : Result code.Applied Refused) (s : State) (bytes : List ℕ) (then : State) (from to : ℕ)
-    → Gives refusal_in (applied_in then) r (result s batches.Load bytes) → OnOk r (to ≤ from + cost_of_load then)
+pub loaded-within : (r : Result code.Applied Refused) (s : State) (bytes : List ℕ) (after : State) (from to : ℕ)
+    → Gives refusal_in (applied_in after) r (result s batches.Load bytes) → OnOk r (to ≤ from + cost_of_load after)
     → OnOk r (IsWithin (bytes_cost batches.Load s bytes) from to)
-loaded-within (Ok applied) s bytes then from to gives w = rw gives w
-loaded-within (Err refused) s bytes then from to gives w = tt
+loaded-within (Ok applied) s bytes after from to gives w = rw gives w
+loaded-within (Err refused) s bytes after from to gives w = tt
 
 -- one that was refused
 refused-within : (s : State) (bytes : List ℕ) (kind : FileUse) (refusal : Refusal) (from to : ℕ)
@@ -129,7 +130,7 @@ refused-within s bytes batches.Apply refusal from to does still = rw does (by (b
   where
     by : (r : Result (List (Change Text)) Fault) → (IsErr r → to ≡ from)
         → IsWithin (changes_cost s r (Err refusal)) from to
-    by (Err fault) still = rw (still tt) (no-steps from)
+    by (Err fault) still = rw (still refl) (no-steps from)
     by (Ok changes) still = tt
 
 pub unmoved-within : {Texts : Type 0} (s : State) (bytes : List ℕ) (kind : FileUse) (refusal : Option Refusal)

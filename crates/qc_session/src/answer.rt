@@ -167,8 +167,8 @@ fn answer_file<F: Files, L: Ledger>(
         (λ t. IfSome (t line.name) (λ bytes. line.kind ≡ FileUse.Apply
         → LeavesOtherRecords pinned.old.now bytes pinned.new.now)) }
     ensures steps { OnOk result (IfSome (F.told files.old)
-        (λ t. IfSome (t line.name) (λ bytes.
-        IsWithin (whole_cost (kind_in line.kind) pinned.old.now.state bytes) steps.old steps.new))) }
+        (λ t. IfSome (t line.name) (λ bytes. IsWithin
+        (whole_cost (kind_in line.kind) pinned.old.now.state bytes) steps.old steps.new))) }
 {
     let FileLine { kind, name } = line;
     match read_all(alloc, files, name.as_str(), MAX_FILE) {

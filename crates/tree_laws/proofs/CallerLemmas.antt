@@ -17,7 +17,7 @@ pub use Rattle.tree_laws.proofs.Walks.{no_root, record_read, walk_found, walk_st
 pub use Rattle.tree_laws.proofs.RowsLess.{no_further}
 pub use Rattle.tree_laws.proofs.Sums.{EachOnce, covered_once, once_filter, once_map, rises_once, sum_alike, sum_by-map, sum_ones, sum_same}
 pub use Rattle.tree_laws.proofs.Sums.{sum_within}
-pub use Rattle.tree_laws.proofs.Entries.{at_tie, entries_once, entry_get, last_part}
+pub use Rattle.tree_laws.proofs.Entries.{at_tie, entries_once, entry_get, get_entry, last_part}
 pub use Rattle.tree_laws.proofs.Counted.{classes_counted, links_counted, nodes_counted, tree_edges_counted}
 pub use Rattle.tree_laws.proofs.EdgesRise.{edges_rise, rises_append}
 pub use Rattle.tree_laws.proofs.Recoded.{with_value-coded}

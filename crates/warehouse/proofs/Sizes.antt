@@ -7,9 +7,10 @@ use Rattle.std.specs.FinMap as finmap
 use Rattle.std.specs.FinMap.{nat_cmp-IsAntisymmetric, slice_cmp-IsAntisymmetric}
 use Rattle.cube_defs.specs.Text.{text_cmp}
 use Rattle.cube_defs.specs.Tree.{links, nodes, tree_edges}
-use Rattle.qc_arena.proofs.Counting.{both-kinds}
+use Rattle.qc_arena.proofs.CallerLemmas.{both-kinds}
 use Rattle.tree_laws.specs.Counts.{links_in, tree_edges_in}
-use Rattle.tree_laws.proofs.CallerLemmas.{links_as_many, links_counted, nodes_as_many, nodes_counted, tree_edges_as_many, tree_edges_counted}
+use Rattle.tree_laws.proofs.CallerLemmas.{links_as_many, links_counted, nodes_as_many, nodes_counted, tree_edges_as_many}
+use Rattle.tree_laws.proofs.CallerLemmas.{tree_edges_counted}
 use Rattle.value_dict.proofs.CallerLemmas.{places-apart}
 use Rattle.warehouse.specs.Counted.{tree_size}
 use Rattle.warehouse.specs.State.{AreContents, Contents, coded_rows}

@@ -31,7 +31,8 @@ use Rattle.warehouse.specs.NodeLists.{cost_of_listing}
 use Rattle.warehouse.specs.Steps.{frame}
 use Rattle.warehouse.specs.Stored.{IsStored, IsTreeOfTable, state_of}
 use Rattle.warehouse.specs.State.{State}
-use Rattle.warehouse.specs.Widening.{KeepsWidened, WidenRefusal, nodes_then, size_of, steps_of_widening, widen_refusal_in, widen_result, widened}
+use Rattle.warehouse.specs.Widening.{KeepsWidened, WidenRefusal, nodes_then, size_of, steps_of_widening, widen_refusal_in, widen_result}
+use Rattle.warehouse.specs.Widening.{widened}
 use Rattle.warehouse.specs.Widening as wide
 use Rattle.warehouse.specs.declared.refused.WidenRefused.{WidenRefused}
 use Rattle.warehouse.specs.declared.refused.WidenRefused.TheVariants as refusals

@@ -98,7 +98,6 @@ returns-in-Ok-apply-clause-unread g c
     = subst (λ (v : Versions). IsErr (batch_in v.now.state.schema c.args.bytes.now)
     → c.apply.new.steps ≡ c.args.steps.now) c.self.view_is c.apply.ensures.unread
 
-
 pub returns-in-Err-apply-clause-unread : goal.returns-in-Err-apply-clause-unread
 returns-in-Err-apply-clause-unread g c
     = subst (λ (v : Versions). IsErr (batch_in v.now.state.schema c.args.bytes.now)

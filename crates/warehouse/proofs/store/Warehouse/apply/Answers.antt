@@ -61,7 +61,8 @@ returns-in-Ok-clause-numbers g c =
     (has_image c.make_changes.new.self.images) c.args.steps.now c.make_changes.new.steps). (made refl).numbers)
     (subst (λ (w : Contents). OnOk c.make_changes.result (InPlace ≡ InPlace
     → IsInPlace w.state changes lists w.tree c.make_changes.new.self.tree
-    (has_image c.make_changes.new.self.images) c.args.steps.now c.make_changes.new.steps)) c.drop_images.ensures.rest c.make_changes.ensures.in_place))
+    (has_image c.make_changes.new.self.images) c.args.steps.now c.make_changes.new.steps)) c.drop_images.ensures.rest
+    c.make_changes.ensures.in_place))
 
 pub returns-in-Ok-clause-apart : goal.returns-in-Ok-clause-apart
 returns-in-Ok-clause-apart g c =
@@ -78,7 +79,8 @@ returns-in-Ok-clause-apart g c =
     (has_image c.make_changes.new.self.images) c.args.steps.now c.make_changes.new.steps). (made refl).apart)
     (subst (λ (w : Contents). OnOk c.make_changes.result (InPlace ≡ InPlace
     → IsInPlace w.state changes lists w.tree c.make_changes.new.self.tree
-    (has_image c.make_changes.new.self.images) c.args.steps.now c.make_changes.new.steps)) c.drop_images.ensures.rest c.make_changes.ensures.in_place))
+    (has_image c.make_changes.new.self.images) c.args.steps.now c.make_changes.new.steps)) c.drop_images.ensures.rest
+    c.make_changes.ensures.in_place))
 
 pub returns-in-Ok-clause-touches : goal.returns-in-Ok-clause-touches
 returns-in-Ok-clause-touches g c =
@@ -95,7 +97,8 @@ returns-in-Ok-clause-touches g c =
     (has_image c.make_changes.new.self.images) c.args.steps.now c.make_changes.new.steps). (made refl).touches)
     (subst (λ (w : Contents). OnOk c.make_changes.result (InPlace ≡ InPlace
     → IsInPlace w.state changes lists w.tree c.make_changes.new.self.tree
-    (has_image c.make_changes.new.self.images) c.args.steps.now c.make_changes.new.steps)) c.drop_images.ensures.rest c.make_changes.ensures.in_place))
+    (has_image c.make_changes.new.self.images) c.args.steps.now c.make_changes.new.steps)) c.drop_images.ensures.rest
+    c.make_changes.ensures.in_place))
 
 pub returns-in-Ok-clause-steps : goal.returns-in-Ok-clause-steps
 returns-in-Ok-clause-steps g c =
@@ -111,7 +114,8 @@ returns-in-Ok-clause-steps g c =
     (has_image c.make_changes.new.self.images) c.args.steps.now c.make_changes.new.steps). (made refl).steps)
     (subst (λ (w : Contents). OnOk c.make_changes.result (InPlace ≡ InPlace
     → IsInPlace w.state changes lists w.tree c.make_changes.new.self.tree
-    (has_image c.make_changes.new.self.images) c.args.steps.now c.make_changes.new.steps)) c.drop_images.ensures.rest c.make_changes.ensures.in_place))
+    (has_image c.make_changes.new.self.images) c.args.steps.now c.make_changes.new.steps)) c.drop_images.ensures.rest
+    c.make_changes.ensures.in_place))
 
 pub returns-in-Ok-clause-state : goal.returns-in-Ok-clause-state
 returns-in-Ok-clause-state g c =
