@@ -1,6 +1,6 @@
 -- What the lines of a script take is within what they may cost.
 use Rattle.std.proofs.Common.{◌≡◌, ◌≤◌, ◌<◌, ◌+◌, ◌*◌, ◌∙◌, ℕ, Bool, List, [], ◌∷◌, ◌++◌, length, true, false, refl}
-use Rattle.std.proofs.Common.{sym, ap, arith, append-nil, map, Option, Some, None, IfSome, inl, inr}
+use Rattle.std.proofs.Common.{sym, subst, ap, arith, append-nil, map, Option, Some, None, IfSome, inl, inr}
 use Rattle.std.specs.Prelude.{IsErr, IsSomeAnd, Result, Ok, Err, OnOk, fold, nat_lt, if◌then◌else◌}
 use Rattle.std.specs.Option.{option_map}
 use Rattle.std.proofs.lemmas.Bool.Decides.{nat_tests}
@@ -70,6 +70,13 @@ query-within s has_index queries.Stats from to w = omega (arith, w)
 query-within s has_index (queries.Parents asked) from to w = w
 query-within s has_index (queries.Children asked) from to w = w
 query-within s has_index (queries.Rollup kind bound value asked) from to w = w
+
+-- the same of a query that no index answers
+pub bare-within : (s : State) (has_index : AggKind → Bool) → ((kind : AggKind) → has_index kind ≡ false)
+    → (query : Query) (from to : ℕ) → IsWithinSteps s has_index query from to
+    → to ≤ from + query_cost s (λ kind. false) (query_in query)
+bare-within s has_index none query from to w = query-within s (λ kind. false) query from to
+    (subst (λ (f : AggKind → Bool). IsWithinSteps s f query from to) (λ j kind. none kind j) w)
 
 -- where a name is pinned, no dimension comes
 pub pinned-within : (s : State) (pins : List Version) (name value : Text) (n : ℕ) → 0 < length pins

@@ -1,5 +1,6 @@
 use Rattle.std.proofs.Common.{refl}
 use Rattle.qc_session.proofs.Answered.{on-ok}
+use Rattle.qc_session.proofs.Costs.{applied-within, loaded-within}
 use Rattle.qc_session.proofs.answer.take_file.Goals as goal
 
 pub returns-in-Load-clause-gives : goal.returns-in-Load-clause-gives

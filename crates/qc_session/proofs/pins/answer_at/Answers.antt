@@ -1,15 +1,12 @@
-use Rattle.std.proofs.Common.{◌∙◌, ◌≡◌, Bool, List, ap, arith, false, subst, sym}
-use Rattle.std.specs.Prelude.{OnOk, is_some}
+use Rattle.std.proofs.Common.{◌∙◌, List, ap, arith, sym}
+use Rattle.std.specs.Prelude.{is_some}
 use Rattle.std.proofs.lemmas.Result.{on_ok_weaker}
 use Rattle.cube_defs.specs.Text.{Text}
-use Rattle.aggregates.specs.declared.kind.AggKind.{AggKind}
-use Rattle.measure_index.specs.Index.{ranking_of}
-use Rattle.query_answers.specs.Queries.{IsWithinSteps}
 use Rattle.query_script.specs.Queries.{query_in}
 use Rattle.reply_text.specs.Replies.{refused_text}
 use Rattle.warehouse.specs.Counted.{AreCounted}
 use Rattle.warehouse.specs.State.{HasTree, with_rows}
-use Rattle.qc_session.proofs.Costs.{query-within}
+use Rattle.qc_session.proofs.Costs.{bare-within}
 use Rattle.qc_session.proofs.PinAnswers.{at-none, at-version, rows-of}
 use Rattle.qc_session.proofs.pins.answer_at.Goals as goal
 
@@ -46,15 +43,9 @@ returns g c =
     let counted : AreCounted version.rows c.stats.result = rw c.stats.ensures is.stats in
     let reply = rw c.now.ensures.value at (c.answer_query-reply.ensures.reply version.rows has counted) in
     let state = with_rows c.args.held.now.now.state version.rows in
-    let bare : (λ (kind : AggKind). is_some (ranking_of kind c.in-Ok.index.now)) ≡ (λ kind. false)
-    = λ j kind. is_some (c.in-Ok.ensures.kinds kind j) in
-    let within : OnOk c.answer_query-reply.result (IsWithinSteps state
-    (λ kind. is_some (ranking_of kind c.in-Ok.index.now)) c.args.query c.args.steps.now c.answer_query-reply.new.steps)
-    = rw c.now.ensures.value at (c.answer_query-reply.ensures.steps version.rows has) in
-    let steps = subst (λ (f : AggKind → Bool). OnOk c.answer_query-reply.result
-    (IsWithinSteps state f c.args.query c.args.steps.now c.answer_query-reply.new.steps)) bare within in
+    let steps = rw c.now.ensures.value at (c.answer_query-reply.ensures.steps version.rows has) in
     record {
       reply = rw (at-version c.args.held.now c.args.number c.args.name.now (query_in c.args.query) version found) reply;
       steps = rw (rows-of c.args.held.now.pins c.args.name.now, found) (on_ok_weaker c.answer_query-reply.result
-          (query-within state (λ kind. false) c.args.query _ _) steps);
+          (bare-within state _ (λ kind. ap is_some (c.in-Ok.ensures.kinds kind)) c.args.query _ _) steps);
     }
