@@ -26,4 +26,5 @@ returns-in-Ok-file_reply-clause-steps g c
 pub returns-in-Err-TooLong-clause-steps : goal.returns-in-Err-TooLong-clause-steps
 returns-in-Err-TooLong-clause-steps g c
     = long-within (g.F.Files.told c.args.files.now) c.args.line.name c.as_str.result.now (kind_in c.args.line.kind)
-    c.args.pinned.now.now.state c.args.steps.now c.as_str.ensures.value (c.in-Err-TooLong.ensures.too_long (ap Err c.in-Err-TooLong.field-0-is))
+    c.args.pinned.now.now.state c.args.steps.now c.as_str.ensures.value
+    (c.in-Err-TooLong.ensures.too_long (ap Err c.in-Err-TooLong.field-0-is))
