@@ -5,9 +5,7 @@ use Rattle.std.specs.Prelude.{IsErr, IsSomeAnd, Result, Ok, Err, OnOk, fold, nat
 use Rattle.std.specs.Option.{option_map}
 use Rattle.std.proofs.lemmas.Bool.Decides.{nat_tests}
 use Rattle.std.proofs.lemmas.List.Sums.{fold-append}
-use Rattle.aggregates.specs.Views.{kind_in}
 use Rattle.aggregates.specs.declared.kind.AggKind.{AggKind}
-use Rattle.aggregates.specs.declared.kind.AggKind.TheVariants as kinds
 use Rattle.cell_core.specs.Gives.{Gives}
 use Rattle.cell_core.specs.declared.fields.Field.{Field}
 use Rattle.csv_load.specs.Batch.{Change}
@@ -17,13 +15,11 @@ use Rattle.cube_defs.specs.Text.{Text}
 use Rattle.cube_defs.specs.declared.limits.TheConstants.{MAX_FILE}
 use Rattle.qc_io.specs.Outside.{FileContents}
 use Rattle.pinned_view.specs.Versions.{Version}
-use Rattle.query_answers.specs.Queries.{IsWithinSteps}
+use Rattle.query_answers.specs.Queries.{query_cost}
 use Rattle.query_script.specs.Commands.{command_in}
 use Rattle.query_script.specs.Faults.{LineFault}
-use Rattle.query_script.specs.Queries.{Point, query_in}
+use Rattle.query_script.specs.Queries.{Point, Query}
 use Rattle.query_script.specs.Questions.{Ask}
-use Rattle.query_script.specs.declared.query.Query.{Query}
-use Rattle.query_script.specs.declared.query.Query.TheVariants as queries
 use Rattle.warehouse.specs.Batch as batches
 use Rattle.warehouse.specs.Batch.{Applied, FileUse, Refusal, result, result_of}
 use Rattle.warehouse.specs.InPlace.{IsWithinCost}
@@ -33,9 +29,9 @@ use Rattle.warehouse.specs.Stored.{applied_in, refusal_in}
 use Rattle.warehouse.specs.declared.refused.Applied as code
 use Rattle.warehouse.specs.declared.refused.Refused.{Refused}
 use Rattle.warehouse.specs.Widening.{WidenRefusal, cost_of_widening, widen_result}
-use Rattle.qc_session.specs.Costs.{Costed, IsWithin, IsWithinScript, batch_cost, both_costs, bytes_cost, changes_cost, costed_step}
+use Rattle.qc_session.specs.Costs.{Costed, IsWithin, IsWithinScript, batch_cost, both_costs, taken_bytes_cost, changes_cost, costed_step}
 use Rattle.qc_session.specs.Costs.{file_cost}
-use Rattle.qc_session.specs.Costs.{item_cost, line_cost, named_kind, query_cost, script_cost, whole_cost, widen_cost, widening_cost}
+use Rattle.qc_session.specs.Costs.{item_cost, line_cost, script_cost, bytes_cost, widen_cost, widening_cost}
 use Rattle.qc_session.specs.Forms.{FileNames}
 use Rattle.qc_session.specs.Lines.{is_passed, script_lines}
 use Rattle.qc_session.specs.Pins.{PinnedState, pin_in, unpinned}
@@ -53,30 +49,12 @@ within-both None second from mid to h more = tt
 within-both (Some first) None from mid to h more = tt
 within-both (Some first) (Some second) from mid to h more = omega (arith, h, more)
 
-named-in : (kind : AggKind) → named_kind (kind_in kind) ≡ kind
-named-in kinds.Count = refl
-named-in (kinds.Sum m) = refl
-named-in (kinds.Least m) = refl
-named-in (kinds.Greatest m) = refl
-named-in (kinds.Mean m) = refl
-
-pub query-within : (s : State) (has_index : AggKind → Bool) (query : Query) (from to : ℕ)
-    → IsWithinSteps s has_index query from to → to ≤ from + query_cost s has_index (query_in query)
-query-within s has_index (queries.Point asked) from to w = w
-query-within s has_index (queries.Range asked) from to w = w
-query-within s has_index (queries.Bounds asked) from to w = w
-query-within s has_index (queries.Iceberg kind bound value) from to w = rw (named-in kind) w
-query-within s has_index queries.Stats from to w = omega (arith, w)
-query-within s has_index (queries.Parents asked) from to w = w
-query-within s has_index (queries.Children asked) from to w = w
-query-within s has_index (queries.Rollup kind bound value asked) from to w = w
-
--- the same of a query that no index answers
+-- a query that no index answers
 pub bare-within : (s : State) (has_index : AggKind → Bool) → ((kind : AggKind) → has_index kind ≡ false)
-    → (query : Query) (from to : ℕ) → IsWithinSteps s has_index query from to
-    → to ≤ from + query_cost s (λ kind. false) (query_in query)
-bare-within s has_index none query from to w = query-within s (λ kind. false) query from to
-    (subst (λ (f : AggKind → Bool). IsWithinSteps s f query from to) (λ j kind. none kind j) w)
+    → (query : Query) (from to : ℕ) → to ≤ from + query_cost s has_index query
+    → to ≤ from + query_cost s (λ kind. false) query
+bare-within s has_index none query from to w
+    = subst (λ (f : AggKind → Bool). to ≤ from + query_cost s f query) (λ j kind. none kind j) w
 
 -- where a name is pinned, no dimension comes
 pub pinned-within : (s : State) (pins : List Version) (name value : Text) (n : ℕ) → 0 < length pins
@@ -117,21 +95,21 @@ batch-within s bytes applied from to does w = rw does (by (batch_in s.schema byt
 
 pub applied-within : (r : Result code.Applied Refused) (s : State) (bytes : List ℕ) (after : State) (from to : ℕ)
     → Gives refusal_in (applied_in after) r (result s batches.Apply bytes) → OnOk r (IsWithinCost s bytes from to)
-    → OnOk r (IsWithin (bytes_cost batches.Apply s bytes) from to)
+    → OnOk r (IsWithin (taken_bytes_cost batches.Apply s bytes) from to)
 applied-within (Ok applied) s bytes after from to gives w = batch-within s bytes (applied_in after applied) from to gives w
 applied-within (Err refused) s bytes after from to gives w = tt
 
 -- a base file that was taken
 pub loaded-within : (r : Result code.Applied Refused) (s : State) (bytes : List ℕ) (after : State) (from to : ℕ)
     → Gives refusal_in (applied_in after) r (result s batches.Load bytes) → OnOk r (to ≤ from + cost_of_load after)
-    → OnOk r (IsWithin (bytes_cost batches.Load s bytes) from to)
+    → OnOk r (IsWithin (taken_bytes_cost batches.Load s bytes) from to)
 loaded-within (Ok applied) s bytes after from to gives w = rw gives w
 loaded-within (Err refused) s bytes after from to gives w = tt
 
 -- one that was refused
 refused-within : (s : State) (bytes : List ℕ) (kind : FileUse) (refusal : Refusal) (from to : ℕ)
     → result s kind bytes ≡ Err refusal → (kind ≡ batches.Apply → IsErr (batch_in s.schema bytes) → to ≡ from)
-    → IsWithin (bytes_cost kind s bytes) from to
+    → IsWithin (taken_bytes_cost kind s bytes) from to
 refused-within s bytes batches.Load refusal from to does still = rw does tt
 refused-within s bytes batches.Apply refusal from to does still = rw does (by (batch_in s.schema bytes) (still refl))
   where
@@ -143,14 +121,14 @@ refused-within s bytes batches.Apply refusal from to does still = rw does (by (b
 pub unmoved-within : {Texts : Type 0} (s : State) (bytes : List ℕ) (kind : FileUse) (refusal : Option Refusal)
     (texts_of : Refusal → Texts) (words : Texts) (from to : ℕ) → Some words ≡ option_map texts_of refusal
     → IfSome refusal (λ f. result s kind bytes ≡ Err f)
-    → (kind ≡ batches.Apply → IsErr (batch_in s.schema bytes) → to ≡ from) → IsWithin (bytes_cost kind s bytes) from to
+    → (kind ≡ batches.Apply → IsErr (batch_in s.schema bytes) → to ≡ from) → IsWithin (taken_bytes_cost kind s bytes) from to
 unmoved-within s bytes kind None texts_of words from to is gives still = absurd (cc)
 unmoved-within s bytes kind (Some refusal) texts_of words from to is gives still
     = refused-within s bytes kind refusal from to gives still
 
 -- a file that is short enough, and one that is too long
 pub short-within : (kind : FileUse) (s : State) (bytes : List ℕ) (from to : ℕ) → length bytes ≤ MAX_FILE
-    → IsWithin (bytes_cost kind s bytes) from to → IsWithin (whole_cost kind s bytes) from to
+    → IsWithin (taken_bytes_cost kind s bytes) from to → IsWithin (bytes_cost kind s bytes) from to
 short-within kind s bytes from to short w = rw fits w
   where
     fits : nat_lt MAX_FILE (length bytes) ≡ false
@@ -158,12 +136,12 @@ short-within kind s bytes from to short w = rw fits w
 
 pub long-within : (told : Option FileContents) (name text : List ℕ) (kind : FileUse) (s : State) (n : ℕ)
     → text ≡ name → IfSome told (λ t. IsSomeAnd (t text) (λ whole. MAX_FILE < length whole))
-    → IfSome told (λ t. IfSome (t name) (λ bytes. IsWithin (whole_cost kind s bytes) n n))
+    → IfSome told (λ t. IfSome (t name) (λ bytes. IsWithin (bytes_cost kind s bytes) n n))
 long-within None name text kind s n same h = tt
 long-within (Some t) name text kind s n same h = by (t name) (rw same at h)
   where
     by : (file : Option (List ℕ)) → IsSomeAnd file (λ whole. MAX_FILE < length whole)
-        → IfSome file (λ bytes. IsWithin (whole_cost kind s bytes) n n)
+        → IfSome file (λ bytes. IsWithin (bytes_cost kind s bytes) n n)
     by None h = tt
     by (Some bytes) h = rw (longer bytes h) (no-steps n)
       where
@@ -172,12 +150,12 @@ long-within (Some t) name text kind s n same h = by (t name) (rw same at h)
 
 -- what a file that a line names may cost
 pub file-within : (told : Option FileContents) (name : List ℕ) (kind : FileUse) (s : State) (from to : ℕ)
-    → IfSome told (λ t. IfSome (t name) (λ bytes. IsWithin (whole_cost kind s bytes) from to))
+    → IfSome told (λ t. IfSome (t name) (λ bytes. IsWithin (bytes_cost kind s bytes) from to))
     → IfSome told (λ t. IsWithin (file_cost kind s (t name)) from to)
 file-within None name kind s from to h = tt
 file-within (Some t) name kind s from to h = by (t name) h
   where
-    by : (file : Option (List ℕ)) → IfSome file (λ bytes. IsWithin (whole_cost kind s bytes) from to)
+    by : (file : Option (List ℕ)) → IfSome file (λ bytes. IsWithin (bytes_cost kind s bytes) from to)
         → IsWithin (file_cost kind s file) from to
     by None h = tt
     by (Some bytes) h = h

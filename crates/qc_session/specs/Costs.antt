@@ -1,21 +1,16 @@
 -- What the lines of a script may cost, in steps.
-use Rattle.std.specs.Prelude.{ℕ, ◌+◌, ◌*◌, ◌^◌, ◌≤◌, Option, Some, None, IfSome, List, [], length, fold, nat_lt, Result, Ok, Err}
-use Rattle.std.specs.Prelude.{if◌then◌else◌, Bool, false, ◌∷◌}
-use Rattle.aggregates.specs.declared.kind.AggKind as declared
-use Rattle.aggregates.specs.declared.kind.AggKind.TheVariants as kinds
+use Rattle.std.specs.Prelude.{ℕ, ◌+◌, ◌≤◌, Option, Some, None, IfSome, List, [], length, fold, nat_lt, Result, Ok, Err}
+use Rattle.std.specs.Prelude.{if◌then◌else◌, false, ◌∷◌}
 use Rattle.csv_load.specs.Batch.{Change}
 use Rattle.csv_load.specs.Faults.{Fault}
 use Rattle.csv_load.specs.Files.{batch_in}
-use Rattle.cube_defs.specs.Answers.{AggKind, Count, Greatest, Least, Mean, Sum}
 use Rattle.cube_defs.specs.Rows.{Row}
 use Rattle.cube_defs.specs.Text.{Text}
 use Rattle.cube_defs.specs.declared.limits.TheConstants.{MAX_FILE}
 use Rattle.qc_io.specs.Outside.{FileContents}
-use Rattle.query_answers.specs.Lattice.{steps_of_children, steps_of_parents, steps_of_rollup}
-use Rattle.query_answers.specs.Queries.{ask_of, cell_of_fields, names_kind, steps_of_iceberg, work_of}
+use Rattle.query_answers.specs.Queries.{names_kind, query_cost}
 use Rattle.query_script.specs.Commands.{command_in}
 use Rattle.query_script.specs.Faults.{LineFault}
-use Rattle.query_script.specs.Queries as queries
 use Rattle.query_script.specs.Queries.{Query}
 use Rattle.query_script.specs.Questions as asks
 use Rattle.query_script.specs.Questions.{Question}
@@ -42,26 +37,6 @@ both_costs None second = None
 both_costs (Some first) None = None
 both_costs (Some first) (Some second) = Some (first + second)
 
--- an aggregate as a schema names it
-abbrev pub named_kind : AggKind → declared.AggKind
-named_kind Count = kinds.Count
-named_kind (Sum m) = kinds.Sum m
-named_kind (Least m) = kinds.Least m
-named_kind (Greatest m) = kinds.Greatest m
-named_kind (Mean m) = kinds.Mean m
-
--- a query of a state's rows, by the kinds that have an index
-abbrev pub query_cost : State → (declared.AggKind → Bool) → Query → ℕ
-query_cost s has_index (queries.Point asked) = 2 * length s.schema.dims + 3
-query_cost s has_index (queries.Range asked) = 3 * (1 + work_of s asked)
-query_cost s has_index (queries.Bounds asked) = 7 * (length s.schema.dims + 1) * 2 ^ length s.schema.dims
-query_cost s has_index (queries.Iceberg kind bound value) = steps_of_iceberg s (has_index (named_kind kind)) kind bound value
-query_cost s has_index queries.Stats = 0
-query_cost s has_index (queries.Parents asked) = steps_of_parents s (cell_of_fields asked)
-query_cost s has_index (queries.Children asked) = steps_of_children s (cell_of_fields asked)
-query_cost s has_index (queries.Rollup kind bound value asked)
-    = steps_of_rollup s (ask_of s.schema.measures kind bound value) (cell_of_fields asked)
-
 -- a query of the rows of a pin, which have no index; a name that isn't pinned is refused at once
 abbrev pub cost_over : State → Query → Option (List (Row Text)) → ℕ
 cost_over s query None = 0
@@ -83,18 +58,19 @@ abbrev pub loaded_cost : Result Applied Refusal → Option ℕ
 loaded_cost (Err refusal) = None
 loaded_cost (Ok applied) = Some (cost_of_load applied.state)
 
--- the bytes of a file, by what it is read for; a file that is too long isn't taken
-abbrev pub bytes_cost : FileUse → State → List ℕ → Option ℕ
-bytes_cost Load s bytes = loaded_cost (result s Load bytes)
-bytes_cost Apply s bytes = batch_cost s bytes
+-- the bytes of a file that isn't too long, by what it is read for
+abbrev pub taken_bytes_cost : FileUse → State → List ℕ → Option ℕ
+taken_bytes_cost Load s bytes = loaded_cost (result s Load bytes)
+taken_bytes_cost Apply s bytes = batch_cost s bytes
 
-abbrev pub whole_cost : FileUse → State → List ℕ → Option ℕ
-whole_cost kind s bytes = if nat_lt MAX_FILE (length bytes) then Some 0 else bytes_cost kind s bytes
+-- the bytes of any file; one that is too long isn't taken
+abbrev pub bytes_cost : FileUse → State → List ℕ → Option ℕ
+bytes_cost kind s bytes = if nat_lt MAX_FILE (length bytes) then Some 0 else taken_bytes_cost kind s bytes
 
 -- the same of a file that is told
 abbrev pub file_cost : FileUse → State → Option (List ℕ) → Option ℕ
 file_cost kind s None = None
-file_cost kind s (Some bytes) = whole_cost kind s bytes
+file_cost kind s (Some bytes) = bytes_cost kind s bytes
 
 -- a new dimension; no bound is claimed of one that is refused
 abbrev pub widening_cost : State → Result Applied WidenRefusal → Option ℕ

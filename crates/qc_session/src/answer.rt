@@ -9,9 +9,9 @@ ghost use Rattle.warehouse.specs.Batch as batches;
 ghost use Rattle.warehouse.specs.InPlace.{LeavesOtherRecords, LeavesNumbers};
 ghost use Rattle.warehouse.specs.State.{State};
 ghost use Rattle.qc_session.specs.Answers.{answer, answer_to, with_pins, change_answer, file_answer, file_named, file_of};
-ghost use Rattle.qc_session.specs.Costs.{IsWithin, bytes_cost, line_cost, query_cost, question_cost, whole_cost};
+ghost use Rattle.qc_session.specs.Costs.{IsWithin, bytes_cost, line_cost, question_cost, taken_bytes_cost};
 ghost use Rattle.qc_session.specs.Pins.{pinned_state_in};
-ghost use Rattle.query_answers.specs.Queries.{names_kind, query_reply};
+ghost use Rattle.query_answers.specs.Queries.{names_kind, query_cost, query_reply};
 ghost use Rattle.query_script.specs.Commands.{IsQuery};
 ghost use Rattle.query_script.specs.Queries as queries;
 ghost use Rattle.query_script.specs.Queries.{query_in};
@@ -87,7 +87,7 @@ fn take_file<L: Ledger>(
     ensures apart { OnOk result (kind ≡ FileUse.Apply
         → LeavesOtherRecords pinned.old.now bytes.now pinned.new.now) }
     ensures steps { OnOk result
-        (IsWithin (bytes_cost (kind_in kind) pinned.old.now.state bytes.now) steps.old steps.new) }
+        (IsWithin (taken_bytes_cost (kind_in kind) pinned.old.now.state bytes.now) steps.old steps.new) }
     ensures unread { kind_in kind ≡ batches.Apply
         → IsErr (batch_in pinned.old.now.state.schema bytes.now) → steps.new ≡ steps.old }
     ensures same { OnErr result (pinned.new ≡ pinned.old) }
@@ -119,7 +119,7 @@ fn file_reply<L: Ledger>(
     ensures apart { kind ≡ FileUse.Apply
         → LeavesOtherRecords pinned.old.now bytes.now pinned.new.now }
     ensures steps { OnOk result
-        (IsWithin (bytes_cost (kind_in kind) pinned.old.now.state bytes.now) steps.old steps.new) }
+        (IsWithin (taken_bytes_cost (kind_in kind) pinned.old.now.state bytes.now) steps.old steps.new) }
     ensures same { OnErr result (pinned.new ≡ pinned.old) }
 {
     match take_file(pinned, kind, bytes, steps) {
@@ -168,7 +168,7 @@ fn answer_file<F: Files, L: Ledger>(
         → LeavesOtherRecords pinned.old.now bytes pinned.new.now)) }
     ensures steps { OnOk result (IfSome (F.told files.old)
         (λ t. IfSome (t line.name) (λ bytes. IsWithin
-        (whole_cost (kind_in line.kind) pinned.old.now.state bytes) steps.old steps.new))) }
+        (bytes_cost (kind_in line.kind) pinned.old.now.state bytes) steps.old steps.new))) }
 {
     let FileLine { kind, name } = line;
     match read_all(alloc, files, name.as_str(), MAX_FILE) {

@@ -1,11 +1,20 @@
 -- The steps that a query takes, where an index is known of more kinds.
 use Rattle.std.proofs.Common.{◌≡◌, ◌≤◌, ◌+◌, ℕ, Bool, true, false, true≢false, refl, sym, arith}
 use Rattle.std.specs.Prelude.{if◌then◌else◌}
+use Rattle.aggregates.specs.Views.{kind_in}
 use Rattle.aggregates.specs.declared.kind.AggKind.{AggKind}
-use Rattle.query_answers.specs.Queries.{IsWithinSteps, steps_of_walk}
-use Rattle.query_script.specs.declared.query.Query.{Query}
-use Rattle.query_script.specs.declared.query.Query.TheVariants as queries
+use Rattle.aggregates.specs.declared.kind.AggKind.TheVariants as kinds
+use Rattle.query_answers.specs.Queries.{named_kind, query_cost, steps_of_walk}
+use Rattle.query_script.specs.Queries as asks
+use Rattle.query_script.specs.Queries.{Query}
 use Rattle.warehouse.specs.State.{State}
+
+pub named-in : (kind : AggKind) → named_kind (kind_in kind) ≡ kind
+named-in kinds.Count = refl
+named-in (kinds.Sum m) = refl
+named-in (kinds.Least m) = refl
+named-in (kinds.Greatest m) = refl
+named-in (kinds.Mean m) = refl
 
 -- a walk is counted wherever no index is named
 fewer : (kept named : Bool) → (named ≡ true → kept ≡ true) → (told walk before after : ℕ)
@@ -16,14 +25,14 @@ fewer false true more told walk before after w = absurd (true≢false (sym (more
 fewer false false more told walk before after w = w
 
 pub within-named : (s : State) (kept named : AggKind → Bool) → ((kind : AggKind) → named kind ≡ true → kept kind ≡ true)
-    → (query : Query) (before after : ℕ) → IsWithinSteps s kept query before after
-    → IsWithinSteps s named query before after
-within-named s kept named more (queries.Point asked) before after w = w
-within-named s kept named more (queries.Range asked) before after w = w
-within-named s kept named more (queries.Bounds asked) before after w = w
-within-named s kept named more (queries.Iceberg kind bound value) before after w
-    = fewer (kept kind) (named kind) (more kind) _ (steps_of_walk s) before after w
-within-named s kept named more queries.Stats before after w = w
-within-named s kept named more (queries.Parents asked) before after w = w
-within-named s kept named more (queries.Children asked) before after w = w
-within-named s kept named more (queries.Rollup kind bound value asked) before after w = w
+    → (query : Query) (before after : ℕ) → after ≤ before + query_cost s kept query
+    → after ≤ before + query_cost s named query
+within-named s kept named more (asks.Point asked) before after w = w
+within-named s kept named more (asks.Range asked) before after w = w
+within-named s kept named more (asks.Bounds asked) before after w = w
+within-named s kept named more (asks.Iceberg kind bound value) before after w
+    = fewer (kept (named_kind kind)) (named (named_kind kind)) (more (named_kind kind)) _ (steps_of_walk s) before after w
+within-named s kept named more asks.Stats before after w = w
+within-named s kept named more (asks.Parents asked) before after w = w
+within-named s kept named more (asks.Children asked) before after w = w
+within-named s kept named more (asks.Rollup kind bound value asked) before after w = w

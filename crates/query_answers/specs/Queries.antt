@@ -1,10 +1,11 @@
 -- What a query is answered: a filter and a sum over the rows of a state.
-use Rattle.std.specs.Prelude.{All, ℕ, ◌≡◌, ◌≤◌, ◌+◌, ◌*◌, ◌^◌, Bool, Option, Some, None, IfSome, List, length, map, slice_index_or}
+use Rattle.std.specs.Prelude.{All, ℕ, ◌≡◌, ◌+◌, ◌*◌, ◌^◌, Bool, Option, Some, None, IfSome, List, length, map, slice_index_or}
 use Rattle.std.specs.Prelude.{if◌then◌else◌}
 use Rattle.std.specs.List.{list_any}
 use Rattle.std.specs.Ordering.{nat_cmp}
 use Rattle.aggregates.specs.declared.kind.AggKind.{AggKind as Kinds}
-use Rattle.aggregates.specs.Views.{fraction_in, kind_in, same_kind}
+use Rattle.aggregates.specs.declared.kind.AggKind.TheVariants as kinds
+use Rattle.aggregates.specs.Views.{same_kind}
 use Rattle.cube_defs.specs.Text.{Text, text_cmp, text_eq}
 use Rattle.cube_defs.specs.Cell.{Cell}
 use Rattle.cube_defs.specs.Rows.{Fraction, Row}
@@ -16,7 +17,6 @@ use Rattle.cube_laws.specs.Total.{agg_at}
 use Rattle.cell_core.specs.declared.fields.Field.{Field}
 use Rattle.cell_core.specs.declared.fields.Field.TheVariants as fields
 use Rattle.qc_schema.specs.Schema.{Layout, Measure, no_measure}
-use Rattle.iceberg_query.specs.Asked.{bound_in}
 use Rattle.iceberg_query.specs.Costs.{tree_size}
 use Rattle.iceberg_query.specs.Indexed.{class_of_node}
 use Rattle.measure_index.specs.Index.{ranking_of}
@@ -24,8 +24,6 @@ use Rattle.measure_index.specs.Rankings.{IsIndex, Ranking}
 use Rattle.query_script.specs.Commands.{IsCellField}
 use Rattle.query_script.specs.Queries as asks
 use Rattle.query_script.specs.Queries.{Query}
-use Rattle.query_script.specs.declared.query.Query as code
-use Rattle.query_script.specs.declared.query.Query.TheVariants as queries
 use Rattle.range_query.specs.Work.{work}
 use Rattle.reply_text.specs.Replies.{bounds_reply, iceberg_text, point_reply, range_reply, stats_text}
 use Rattle.value_dict.specs.Boxes.{fields_box}
@@ -143,20 +141,23 @@ query_reply state line (asks.Children asked) = children_answer state line (cell_
 query_reply state line (asks.Rollup kind bound value asked)
     = rollup_answer state line (ask_of state.schema.measures kind bound value) (cell_of_fields asked)
 
--- the steps before an answer and after it are no further apart than is promised of the query, by the kinds that have
--- an index
-abbrev pub IsWithinSteps : State → (Kinds → Bool) → code.Query → ℕ → ℕ → Type 0
-IsWithinSteps state has_index (queries.Point asked) before after = after ≤ before + (2 * length state.schema.dims + 3)
-IsWithinSteps state has_index (queries.Range asked) before after = after ≤ before + 3 * (1 + work_of state asked)
-IsWithinSteps state has_index (queries.Bounds asked) before after
-    = after ≤ before + 7 * (length state.schema.dims + 1) * 2 ^ length state.schema.dims
-IsWithinSteps state has_index (queries.Iceberg kind bound value) before after = after ≤ before
-    + steps_of_iceberg state (has_index kind) (kind_in kind) (bound_in bound) (fraction_in value)
-IsWithinSteps state has_index queries.Stats before after = after ≤ before
-IsWithinSteps state has_index (queries.Parents asked) before after
-    = after ≤ before + steps_of_parents state (cell_of_fields asked)
-IsWithinSteps state has_index (queries.Children asked) before after
-    = after ≤ before + steps_of_children state (cell_of_fields asked)
-IsWithinSteps state has_index (queries.Rollup kind bound value asked) before after =
-    after ≤ before + steps_of_rollup state
-    (ask_of state.schema.measures (kind_in kind) (bound_in bound) (fraction_in value)) (cell_of_fields asked)
+-- an aggregate as a schema names it
+abbrev pub named_kind : AggKind → Kinds
+named_kind Count = kinds.Count
+named_kind (Sum m) = kinds.Sum m
+named_kind (Least m) = kinds.Least m
+named_kind (Greatest m) = kinds.Greatest m
+named_kind (Mean m) = kinds.Mean m
+
+-- the most steps that the answer to a query takes, by the kinds that have an index
+abbrev pub query_cost : State → (Kinds → Bool) → Query → ℕ
+query_cost state has_index (asks.Point asked) = 2 * length state.schema.dims + 3
+query_cost state has_index (asks.Range asked) = 3 * (1 + work_of state asked)
+query_cost state has_index (asks.Bounds asked) = 7 * (length state.schema.dims + 1) * 2 ^ length state.schema.dims
+query_cost state has_index (asks.Iceberg kind bound value)
+    = steps_of_iceberg state (has_index (named_kind kind)) kind bound value
+query_cost state has_index asks.Stats = 0
+query_cost state has_index (asks.Parents asked) = steps_of_parents state (cell_of_fields asked)
+query_cost state has_index (asks.Children asked) = steps_of_children state (cell_of_fields asked)
+query_cost state has_index (asks.Rollup kind bound value asked)
+    = steps_of_rollup state (ask_of state.schema.measures kind bound value) (cell_of_fields asked)

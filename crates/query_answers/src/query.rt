@@ -1,9 +1,9 @@
 // The answer to a query.
-ghost use Rattle.std.specs.Prelude.{IfOk, List, OnErr, OnOk, is_some, ◌≡◌, ◌≢◌};
+ghost use Rattle.std.specs.Prelude.{IfOk, List, OnErr, OnOk, is_some, ◌+◌, ◌≡◌, ◌≢◌, ◌≤◌};
 ghost use Rattle.cube_defs.specs.Rows.{Row};
 ghost use Rattle.cube_defs.specs.Text.{Text};
 ghost use Rattle.measure_index.specs.Index.{ranking_of};
-ghost use Rattle.query_answers.specs.Queries.{IsSource, IsWithinSteps, names_kind, query_reply};
+ghost use Rattle.query_answers.specs.Queries.{IsSource, names_kind, query_cost, query_reply};
 ghost use Rattle.query_script.specs.Commands.{IsQuery};
 ghost use Rattle.query_script.specs.Queries as queries;
 ghost use Rattle.query_script.specs.Queries.{query_in};
@@ -43,8 +43,9 @@ pub fn answer_query<T: Nodes, L: Ledger>(
         ≡ query_reply (with_rows source.now.warehouse.now.state rows) number (query_in query.now)) }
     ensures steps { (rows : List (Row Text)) →
         HasTree (with_rows source.now.warehouse.now.state rows) (T.tree source.now.tree.now) →
-        OnOk result (IsWithinSteps (with_rows source.now.warehouse.now.state rows)
-        (λ kind. is_some (ranking_of kind source.now.index.now)) query.now steps.old steps.new) }
+        OnOk result (steps.new ≤ steps.old
+        + query_cost (with_rows source.now.warehouse.now.state rows)
+        (λ kind. is_some (ranking_of kind source.now.index.now)) (query_in query.now)) }
     ensures memory { OnErr result (query_in query.now ≢ queries.Stats) }
 {
     match query {
@@ -85,8 +86,8 @@ pub fn answer_present<L: Ledger>(
     ensures reply { IfOk result (λ reply. reply_bytes reply ≡ query_reply warehouse.now.state number
         (query_in query.now)) }
     ensures steps { OnOk result
-        (IsWithinSteps warehouse.now.state (names_kind warehouse.now.state.schema) query.now
-        steps.old steps.new) }
+        (steps.new ≤ steps.old + query_cost warehouse.now.state
+        (names_kind warehouse.now.state.schema) (query_in query.now)) }
     ensures memory { OnErr result (query_in query.now ≢ queries.Stats) }
 {
     let source = Source {

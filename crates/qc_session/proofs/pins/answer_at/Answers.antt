@@ -47,5 +47,5 @@ returns g c =
     record {
       reply = rw (at-version c.args.held.now c.args.number c.args.name.now (query_in c.args.query) version found) reply;
       steps = rw (rows-of c.args.held.now.pins c.args.name.now, found) (on_ok_weaker c.answer_query-reply.result
-          (bare-within state _ (λ kind. ap is_some (c.in-Ok.ensures.kinds kind)) c.args.query _ _) steps);
+          (bare-within state _ (λ kind. ap is_some (c.in-Ok.ensures.kinds kind)) (query_in c.args.query) _ _) steps);
     }

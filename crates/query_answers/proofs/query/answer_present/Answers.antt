@@ -6,6 +6,7 @@ use Rattle.measure_index.specs.Index.{ranking_of}
 use Rattle.query_answers.specs.Queries.{names_kind}
 use Rattle.query_answers.proofs.Measured.{named-kept}
 use Rattle.query_answers.proofs.Taken.{within-named}
+use Rattle.query_script.specs.Queries.{query_in}
 use Rattle.query_answers.proofs.query.answer_present.Goals as goal
 
 pub returns-clause-steps : goal.returns-clause-steps
@@ -16,7 +17,7 @@ returns-clause-steps g c =
     subst (λ x. IsSome (ranking_of kind x)) (sym c.index.ensures.value)
     (named-kept s.schema kind c.args.warehouse.now.index s.schema.indexes
     c.index.ensures.valid.index.kinds named) in
-    on_ok_weaker c.answer_query.result (within-named s _ _ kept c.args.query.now _ _)
+    on_ok_weaker c.answer_query.result (within-named s _ _ kept (query_in c.args.query.now) _ _)
     (c.answer_query.ensures.steps s.rows (record {
       state = c.tree.ensures.valid.state;
       canonical

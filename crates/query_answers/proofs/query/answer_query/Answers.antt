@@ -1,5 +1,6 @@
 use Rattle.std.proofs.Common.{◌≤◌, ◌+◌, ℕ, Option, Some, None, arith, rules}
 use Rattle.std.specs.Prelude.{Err, IfOk, IsSome, Ok, OnErr, OnOk, Result, if◌then◌else◌, is_some}
+use Rattle.query_answers.proofs.Taken.{named-in}
 use Rattle.query_answers.proofs.query.answer_query.Goals as goal
 
 on-ok : {T E : Type 0} (r : Result T E) (P : Type 0) → P → OnOk r P
@@ -10,7 +11,7 @@ on-err : {T E P : Type 0} (r : Result T E) → P → OnErr r P
 on-err (Ok x) p = tt
 on-err (Err e) p = p
 
-none-more : (n : ℕ) → n ≤ n
+none-more : (n : ℕ) → n ≤ n + 0
 none-more n = omega arith
 
 -- what holds where there is a ranking, and where there is none
@@ -45,8 +46,8 @@ returns-in-Bounds g c = rw c.in-Bounds.is (record {
 pub returns-in-Iceberg : goal.returns-in-Iceberg
 returns-in-Iceberg g c = rw c.in-Iceberg.is (record {
   reply = λ rows has counted. c.answer_iceberg.ensures.reply rows has;
-  steps = λ rows has. either c.answer_iceberg.result _ _ _ _ _ (λ there. c.answer_iceberg.ensures.steps there rows has)
-      (c.answer_iceberg.ensures.walked rows has);
+  steps = λ rows has. rw (named-in c.in-Iceberg.kind) (either c.answer_iceberg.result _ _ _ _ _
+      (λ there. c.answer_iceberg.ensures.steps there rows has) (c.answer_iceberg.ensures.walked rows has));
   memory = on-err c.answer_iceberg.result (λ e. absurd (cc e));
 })
 
