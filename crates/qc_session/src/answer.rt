@@ -87,7 +87,8 @@ fn take_file<L: Ledger>(
     ensures apart { OnOk result (kind ≡ FileUse.Apply
         → LeavesOtherRecords pinned.old.now bytes.now pinned.new.now) }
     ensures steps { OnOk result
-        (IsWithin (taken_bytes_cost (kind_in kind) pinned.old.now.state bytes.now) steps.old steps.new) }
+        (IsWithin (taken_bytes_cost (kind_in kind) pinned.old.now.state bytes.now)
+        steps.old steps.new) }
     ensures unread { kind_in kind ≡ batches.Apply
         → IsErr (batch_in pinned.old.now.state.schema bytes.now) → steps.new ≡ steps.old }
     ensures same { OnErr result (pinned.new ≡ pinned.old) }
@@ -119,7 +120,8 @@ fn file_reply<L: Ledger>(
     ensures apart { kind ≡ FileUse.Apply
         → LeavesOtherRecords pinned.old.now bytes.now pinned.new.now }
     ensures steps { OnOk result
-        (IsWithin (taken_bytes_cost (kind_in kind) pinned.old.now.state bytes.now) steps.old steps.new) }
+        (IsWithin (taken_bytes_cost (kind_in kind) pinned.old.now.state bytes.now)
+        steps.old steps.new) }
     ensures same { OnErr result (pinned.new ≡ pinned.old) }
 {
     match take_file(pinned, kind, bytes, steps) {
