@@ -8,7 +8,6 @@ ghost use Rattle.std.specs.Prelude.{Err, IfOk, IsSome, None, Ok, OnErr, OnOk, So
 ghost use Rattle.aggregates.specs.Views.{agg_in};
 ghost use Rattle.base_table.specs.Places.{rows_of, widened, with_code};
 ghost use Rattle.cell_core.specs.Gives.{Gives};
-ghost use Rattle.cube_defs.specs.Cell.{depth};
 ghost use Rattle.iceberg_query.specs.Subtree.{numbers};
 ghost use Rattle.qc_arena.specs.Map.{CanChange, frame, is_open, is_touched};
 ghost use Rattle.qc_arena.specs.RecordReaders.{record_at};
@@ -18,7 +17,7 @@ ghost use Rattle.tree_laws.specs.Counts.{classes_in};
 ghost use Rattle.tree_search.specs.Found.{IsTreeOf};
 ghost use Rattle.warehouse.specs.Changing.{AreParts, contents_of, state_in};
 ghost use Rattle.warehouse.specs.Dimensions.{AreRestored, AreClosed, AreWidened, CanWiden};
-ghost use Rattle.warehouse.specs.ClassMoves.{MovesClassTo, HasChild, HasRoom, HasRoomAt, IsWide, with_forced_child};
+ghost use Rattle.warehouse.specs.ClassMoves.{CanTakeChild, MovesClassTo, HasChild, HasRoom, HasRoomAt, IsWide, with_forced_child};
 ghost use Rattle.warehouse.specs.NodeLists.{AreNodesOf, MovesClassOf};
 ghost use Rattle.warehouse.specs.State.{IsIndexed};
 ghost use Rattle.warehouse.specs.Stored.{applied_in};
@@ -49,10 +48,7 @@ fn add_child<L: Ledger>(
     class: Agg,
     steps: &mut Steps<L>,
 ) -> Result<NodeNo, Memory>
-    requires opened { is_open tree.old ≡ true }
-    requires node { IsSome (finmap.get tree.old.now node.0) }
-    requires room { depth (record_at tree.old.now node.0).cell ≤ dim }
-    requires dim { dim < tree.old.width }
+    requires node { CanTakeChild dim tree.old node.0 }
     requires few { finmap.len tree.old.now < tree.old.max }
     ensures child { IfOk result
         (λ child. HasChild dim node.0 (agg_in class) tree.old.now tree.new.now child.0) }
@@ -106,10 +102,7 @@ fn move_class_to_child<L: Ledger>(
     class: Agg,
     steps: &mut Steps<L>,
 ) -> Result<NodeNo, Memory>
-    requires opened { is_open tree.old ≡ true }
-    requires node { IsSome (finmap.get tree.old.now node.0) }
-    requires room { depth (record_at tree.old.now node.0).cell ≤ dim }
-    requires dim { dim < tree.old.width }
+    requires node { CanTakeChild dim tree.old node.0 }
     requires few { finmap.len tree.old.now < tree.old.max }
     ensures handed { IfOk result
         (λ child. MovesClassTo dim node.0 (agg_in class) tree.old.now tree.new.now child.0) }
@@ -136,10 +129,7 @@ fn move_class<L: Ledger>(
     nodes: &mut Vec<NodeNo>,
     steps: &mut Steps<L>,
 ) -> Result<(), Memory>
-    requires opened { is_open tree.old ≡ true }
-    requires node { IsSome (finmap.get tree.old.now node.0) }
-    requires room { depth (record_at tree.old.now node.0).cell ≤ dim }
-    requires dim { dim < tree.old.width }
+    requires node { CanTakeChild dim tree.old node.0 }
     requires few { HasRoomAt tree.old node.0 }
     ensures moved { OnOk result (MovesClassOf dim node.0 tree.old.now tree.new.now nodes.old.items
         nodes.new.items (record_at tree.old.now node.0).class) }
