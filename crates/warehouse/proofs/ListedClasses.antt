@@ -14,12 +14,13 @@ use Rattle.cube_defs.specs.Tree.{Tree}
 use Rattle.cube_laws.specs.Lists.{Among}
 use Rattle.cube_laws.proofs.CallerLemmas.{among_append, take_all}
 use Rattle.iceberg_query.specs.Subtree.{numbers}
+use Rattle.iceberg_query.proofs.CallerLemmas.{each_once}
 use Rattle.measure_index.specs.Builder.{AreKeysOf, GatheredKeys}
 use Rattle.qc_arena.specs.Changes.{AreNew, class_in}
 use Rattle.qc_arena.specs.Map.{Known}
 use Rattle.qc_arena.proofs.CallerLemmas.{pushed, pushed_new, pushed_old}
 use Rattle.warehouse.specs.NodeLists.{AreNodesOf}
-use Rattle.warehouse.proofs.NodeLists.{each_once, not_before, numbers_push, taken_next}
+use Rattle.warehouse.proofs.NodeLists.{not_before, numbers_push, taken_next}
 
 -- the pairs of the classes whose numbers were seen
 pub record AreListed (class : ℕ → Option defs.Agg) (IsSeen : ℕ → Type 0) (pairs : List (NodeNo × Agg)) : Type 0 where

@@ -6,11 +6,13 @@ use Rattle.std.proofs.Common.{eq-eqb, eqb-true}
 use Rattle.std.specs.Prelude.{IsSome}
 use Rattle.std.proofs.lemmas.Bool.Decides.{eqb_tells}
 use Rattle.std.proofs.lemmas.Bool.{cond-true, cond-false, false_from_ne_true}
-use Rattle.std.proofs.lemmas.List.{length-append}
+use Rattle.std.proofs.lemmas.List.{length-append, length-map}
+use Rattle.std.proofs.lemmas.List.Sums.{sum_by-append, sum_by-cons, sum_by-take-le}
 use Rattle.std.proofs.Math.Bool.{or-true, or-false}
 use Rattle.std.specs.FinMap as map
-use Rattle.std.specs.List.{AllByRecursion}
+use Rattle.std.specs.List.{AllByRecursion, count_by}
 use Rattle.std.specs.Option.{option_map}
+use Rattle.std.specs.Ordering.{nat_cmp}
 use Rattle.cell_core.specs.declared.cell.NodeNo.{NodeNo}
 use Rattle.cube_defs.specs.Cell.{Cell, depth, with_value}
 use Rattle.cube_defs.specs.Rows.{Agg}
@@ -22,11 +24,12 @@ use Rattle.qc_arena.specs.Changes.{class_in}
 use Rattle.qc_arena.specs.Edges.{put_edge}
 use Rattle.qc_arena.specs.Map.{Known}
 use Rattle.qc_arena.specs.RecordReaders.{label_lt, number, record_at, record_or}
+use Rattle.tree_laws.specs.Counts.{classes_in}
 use Rattle.tree_laws.proofs.CallerLemmas.{some_same}
-use Rattle.warehouse.specs.ClassMoves.{MovesClassTo, MovesClasses, HasMovedClasses, IsWide, is_listed, label_to, made_child}
-use Rattle.warehouse.specs.ClassMoves.{with_forced_child}
+use Rattle.warehouse.specs.ClassMoves.{MovesClassTo, MovesClasses, HasMovedClasses, IsWide, is_class_at, is_listed, label_to}
+use Rattle.warehouse.specs.ClassMoves.{made_child, with_forced_child}
 use Rattle.warehouse.specs.NodeLists.{AreNodesOf, MovesClassOf}
-use Rattle.warehouse.proofs.NodeLists.{numbers_push, once_more, same_nodes, taken_next}
+use Rattle.warehouse.proofs.NodeLists.{all_listed, classes_few, numbers_few, numbers_push, once_more, same_nodes, taken_next}
 use Rattle.warehouse.specs.Widening.{KeepsWidened}
 use Rattle.widen_laws.proofs.CallerLemmas.{depth-any_after, value_after}
 use Rattle.widen_laws.specs.Widened.{and_any, and_value, child_by_number, with_forced_value_by_number, with_any_by_number}
@@ -125,12 +128,8 @@ module _ (dims i : ℕ) (done : ℕ → Bool) (tree wide : Tree ℕ) (child : �
         | inr f ↦ done_other k f.1 d
       ]
 
-  module _ (after : Tree ℕ) (c : ℕ) (class : Agg) (n : Known) (at : map.get tree i ≡ Some n)
-      (is : class_in (map.get wide i) ≡ Some class)
-      (here : map.get after i ≡ option_map (with_forced_child dims c) (map.get wide i))
-      (new : map.get after c ≡ Some (made_child dims i class (record_at wide i).cell))
-      (free : map.get wide c ≡ None) (rest : (q : ℕ) → q ≢ i → q ≢ c → map.get after q ≡ map.get wide q) where
-    -- so it was not done
+  -- where the number has a class, it was not done
+  module _ (class : Agg) (n : Known) (at : map.get tree i ≡ Some n) (is : class_in (map.get wide i) ≡ Some class) where
     open_yet : (b : Bool) → done i ≡ b → b ≡ false
     open_yet false e = refl
     open_yet true e = go (is_some n.class) refl
@@ -148,6 +147,11 @@ module _ (dims i : ℕ) (done : ℕ → Bool) (tree wide : Tree ℕ) (child : �
     has : n.class ≡ Some class
     has = ap class_in (sym still) ∙ is
 
+  module _ (after : Tree ℕ) (c : ℕ) (class : Agg) (n : Known) (at : map.get tree i ≡ Some n)
+      (is : class_in (map.get wide i) ≡ Some class)
+      (here : map.get after i ≡ option_map (with_forced_child dims c) (map.get wide i))
+      (new : map.get after c ≡ Some (made_child dims i class (record_at wide i).cell))
+      (free : map.get wide c ≡ None) (rest : (q : ℕ) → q ≢ i → q ≢ c → map.get after q ≡ map.get wide q) where
     abbrev child' : ℕ → ℕ
     child' k = cond (nat_eq k i) c (child k)
 
@@ -164,16 +168,16 @@ module _ (dims i : ℕ) (done : ℕ → Bool) (tree wide : Tree ℕ) (child : �
     moved k m old apart = let w = there_now k m old in rest k apart (taken k w.0 w.1)
 
     is_class : is_some n.class ≡ true
-    is_class = ap is_some has
+    is_class = ap is_some (has class n at is)
 
     here_now : map.get after i ≡ Some (with_forced_value_by_number dims 0 c n)
-    here_now = here ∙ ap (option_map (with_forced_child dims c)) still
+    here_now = here ∙ ap (option_map (with_forced_child dims c)) (still class n at is)
         ∙ ap (λ x. Some x) (led-handed dims c n (is_wide.labels i n at))
 
     child_now : map.get after c ≡ Some (child_by_number 0 i n)
     child_now =
-        new ∙ ap (λ d. Some (made_child dims i class d)) (cell-read wide i (with_any_by_number n) still)
-        ∙ ap (λ x. Some x) (child-made dims i class n (is_wide.cells i n at) has)
+        new ∙ ap (λ d. Some (made_child dims i class d)) (cell-read wide i (with_any_by_number n) (still class n at is))
+        ∙ ap (λ x. Some x) (child-made dims i class n (is_wide.cells i n at) (has class n at is))
 
     same_record : (m : Known) → map.get tree i ≡ Some m → m ≡ n
     same_record m h = some_same (sym h ∙ at)
@@ -234,7 +238,7 @@ module _ (dims i : ℕ) (done : ℕ → Bool) (tree wide : Tree ℕ) (child : �
             made.3,
             still_done made.0 made.4,
             made.5 ∙ sym (other_child made.0 (λ e. absurd (true≢false (sym made.4 ∙ ap done e
-                ∙ open_yet (done i) refl)))),
+                ∙ open_yet class n at is (done i) refl)))),
           )
         ]
       ]
@@ -307,6 +311,7 @@ pub record IsOnWay (dims place : ℕ) (tree wide : Tree ℕ) (old now : List Nod
   pub front : (j : ℕ) → j < length old → slice_get now j ≡ slice_get old j
   pub least : length old ≤ length now
   pub most : length now ≤ length old + place
+  pub grown : length now ≤ length old + count_by (is_class_at tree) (take place old)
 
 module _ (dims place : ℕ) (tree wide : Tree ℕ) (old now : List NodeNo) (x : NodeNo) (is_wide : IsWide dims tree)
     (listed : AreNodesOf tree (numbers old)) (was : IsOnWay dims place tree wide old now)
@@ -336,6 +341,35 @@ module _ (dims place : ℕ) (tree wide : Tree ℕ) (old now : List NodeNo) (x : 
   done_next : is_listed (take (place + 1) old) ≡ (λ k. is_listed (take place old) k || nat_eq k x.0)
   done_next = λ i k. (ap (λ xs. is_listed xs k) (taken_next old place x at) ∙ listed_next (take place old) x k) i
 
+  count_next : count_by (is_class_at tree) (take (place + 1) old)
+      ≡ count_by (is_class_at tree) (take place old) + cond (is_class_at tree x) 1 0
+  count_next = ap (count_by (is_class_at tree)) (taken_next old place x at)
+      ∙ sum_by-append (λ y. cond (is_class_at tree y) 1 0) (take place old) (x ∷ [])
+      ∙ omega (arith, sum_by-cons (λ y. cond (is_class_at tree y) 1 0) x [])
+
+  -- a node with a class had it from the start
+  class_next : (class : Agg) → (record_at wide x.0).class ≡ Some class
+      → count_by (is_class_at tree) (take (place + 1) old) ≡ count_by (is_class_at tree) (take place old) + 1
+  class_next class is =
+      let had : old_node.0.class ≡ Some class = has dims x.0 (is_listed (take place old)) tree wide was.moves.0 is_wide
+      was.moves.1 class old_node.0 old_node.1 (same_class ∙ is) in
+      let counts : is_class_at tree x ≡ true = ap (λ o. is_some (record_or o).class) old_node.1 ∙ ap is_some had in
+      count_next ∙ ap (λ n. count_by (is_class_at tree) (take place old) + n) (cond-true (is_class_at tree x) 1 0 counts)
+
+  -- so there is room for the child that it hands its class to
+  pub has_room : (most : ℕ) → map.len tree + classes_in nat_cmp tree ≤ most → is_some (record_at wide x.0).class ≡ true
+      → map.len wide < most
+  has_room most fits t = go (record_at wide x.0).class refl t
+    where
+      go : (o : Option Agg) → (record_at wide x.0).class ≡ o → is_some o ≡ true → map.len wide < most
+      go None e h = absurd (true≢false (sym h))
+      go (Some class) e h =
+          let size = all_listed (numbers now) wide was.nodes.all in
+          let long = length-map now number in
+          let classes = classes_few tree old listed in
+          let first = sum_by-take-le (λ y. cond (is_class_at tree y) 1 0) old (place + 1) in
+          omega (arith, size, long, was.grown, class_next class e, first, classes, numbers_few tree old listed, fits)
+
   -- one node more: it has no class, or hands its class on
   pub goes_on : (after : Tree ℕ) (then : List NodeNo) (o : Option Agg) → (record_at wide x.0).class ≡ o
       → MovesClassOf dims x.0 wide after now then o → IsOnWay dims (place + 1) tree after old then
@@ -350,6 +384,7 @@ module _ (dims place : ℕ) (tree wide : Tree ℕ) (old now : List NodeNo) (x : 
     front = λ j l. ap (λ (ns : List NodeNo). slice_get ns j) same.1 ∙ was.front j l;
     least = let long = ap (λ (ns : List NodeNo). length ns) same.1 in omega (arith, long, was.least);
     most = let long = ap (λ (ns : List NodeNo). length ns) same.1 in omega (arith, long, was.most);
+    grown = let long = ap (λ (ns : List NodeNo). length ns) same.1 in omega (arith, long, was.grown, count_next);
   }
   goes_on after then (Some class) is (child, move, more) = record {
     moves = subst (λ d. MovesClasses d dims tree after) (sym done_next) (
@@ -364,6 +399,7 @@ module _ (dims place : ℕ) (tree wide : Tree ℕ) (old now : List NodeNo) (x : 
         ∙ pushed_old' now child j (omega (arith, l, was.least)) ∙ was.front j l;
     least = omega (arith, longer, was.least);
     most = omega (arith, longer, was.most);
+    grown = omega (arith, longer, was.grown, class_next class is);
   }
     where
       longer : length then ≡ length now + 1
@@ -394,6 +430,7 @@ sets_out dims tree wide nodes same listed = record {
   front = λ j l. refl;
   least = omega arith;
   most = omega arith;
+  grown = omega arith;
 }
   where
     go : (q : ℕ) (m : Known) (o : Option Known) → map.get tree q ≡ o → option_map with_any_by_number o ≡ Some m

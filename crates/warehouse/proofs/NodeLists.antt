@@ -2,14 +2,14 @@
 use Rattle.std.proofs.Common.{◌≡◌, ◌≢◌, inl, inr, ℕ, zero, suc, ◌+◌, ◌-◌, ◌*◌, ◌<◌, ◌≤◌, Bool, true, false, cond, Option, Some}
 use Rattle.std.proofs.Common.{None, List, [], ◌∷◌}
 use Rattle.std.proofs.Common.{◌++◌, length, map, flat_map, take, drop, replicate, slice_get, nat_eq, eqb-true, refl, sym, ap, ap₂, subst}
-use Rattle.std.proofs.Common.{◌∙◌, arith, nat_cmp}
+use Rattle.std.proofs.Common.{◌∙◌, arith, is_some, nat_cmp, true≢false}
 use Rattle.std.specs.Prelude.{IsSome}
 use Rattle.std.specs.FinMap as numbers
-use Rattle.std.specs.List.{IsDistinct, sum_by}
+use Rattle.std.specs.Cmp.{nat_cmp_total, tied_itself}
+use Rattle.std.specs.List.{IsDistinct, count_by, sum_by}
 use Rattle.std.specs.Option.{option_map}
-use Rattle.std.specs.Ordering.{eq_by_cmp}
+use Rattle.std.specs.Ordering.{eq_by_cmp, is_eq}
 use Rattle.std.proofs.lemmas.Bool.{false_from_ne_true, cond-true, cond-false}
-use Rattle.std.proofs.lemmas.Bool.Decides.{eqb_tells}
 use Rattle.std.proofs.lemmas.Grind.{flat_map-append}
 use Rattle.std.proofs.lemmas.List.{append-nil, append_assoc, map-append, length-append, length-map, take-append-drop}
 use Rattle.std.proofs.lemmas.List.Sums.{sum_by-append, sum_by-cons}
@@ -17,31 +17,20 @@ use Rattle.cell_core.specs.declared.cell.NodeNo.{NodeNo}
 use Rattle.cube_defs.specs.Cell.{cell_prefix}
 use Rattle.cube_defs.specs.Tree.{Edge, Tree, cell_at}
 use Rattle.cube_laws.specs.Lists.{Among}
-use Rattle.cube_laws.proofs.CallerLemmas.{all_append, all_at, cell_prefix_zero, code_equality, get_among}
-use Rattle.cube_laws.proofs.CallerLemmas.{take_all}
+use Rattle.cube_laws.proofs.CallerLemmas.{all_append, cell_prefix_zero, code_equality, get_among}
+use Rattle.cube_laws.proofs.CallerLemmas.{map_among, take_all}
 use Rattle.iceberg_query.specs.Subtree as seen
 use Rattle.iceberg_query.specs.Subtree.{is_child, subtree}
-use Rattle.iceberg_query.proofs.CallerLemmas.{all_below, below_begins, below_more, below_once, from_edge}
+use Rattle.iceberg_query.proofs.CallerLemmas.{all_below, below_begins, below_more, below_once, each_once, from_edge}
 use Rattle.qc_arena.specs.Map.{Known, edges_in}
 use Rattle.qc_arena.specs.RecordReaders.{number, record_at, record_or}
-use Rattle.tree_laws.proofs.CallerLemmas.{EachOnce, at_tie, entry_get, node_prefixes, some_same, sum_alike, sum_by-map, sum_ones}
+use Rattle.tree_laws.specs.Counts.{classes_in}
+use Rattle.tree_laws.proofs.CallerLemmas.{EachOnce, entry_get, get_entry, node_prefixes, some_same, sum_alike, sum_by-map, sum_ones}
 use Rattle.tree_laws.proofs.CallerLemmas.{sum_within, there}
 use Rattle.tree_search.specs.Found.{IsTree}
 use Rattle.tree_search.proofs.CallerLemmas.{there_is, wide}
+use Rattle.warehouse.specs.ClassMoves.{is_class_at}
 use Rattle.warehouse.specs.NodeLists.{AreNodesOf, cost_of_listing, visit_cost}
-
--- no item twice, in two words
-pub each_once : (xs : List ℕ) → IsDistinct nat_eq xs → EachOnce xs
-unfolding IsDistinct
-each_once [] h = tt
-each_once (x ∷ xs) h = (
-  λ m. let apart : nat_eq x x ≡ false = all_at (λ y. nat_eq x y ≡ false) x xs h.0 m in
-      elim (eqb_tells x x) [
-        | inl t ↦ (let bad : true ≡ false = sym t.0 ∙ apart in cc)
-        | inr f ↦ absurd (f.1 refl)
-      ],
-  each_once xs h.1,
-)
 
 -- one item more
 pub once_more : (xs : List ℕ) (k : ℕ) → IsDistinct nat_eq xs → (Among k xs → ⊥) → IsDistinct nat_eq (xs ++ k ∷ [])
@@ -79,22 +68,13 @@ module _ (tree : Tree ℕ) where
   record_is : (k : ℕ) (n : Known) → numbers.get tree k ≡ Some n → record_at tree k ≡ n
   record_is k n e = ap record_or e
 
-  -- a record stands among the entries
-  found_entry : (q : ℕ) (x : Known) (es : List (ℕ × Known)) → numbers.find nat_cmp q es ≡ Some x → Among q (map (λ e. e.0) es)
-  found_entry q x [] h = cc
-  found_entry q x (e ∷ es) h = go (found_entry q x es) (eq_by_cmp nat_cmp q e.0) refl h
-    where
-      go : (numbers.find nat_cmp q es ≡ Some x → Among q (map (λ e. e.0) es)) → (b : Bool) → eq_by_cmp nat_cmp q e.0 ≡ b
-          → cond b (Some e.1) (numbers.find nat_cmp q es) ≡ Some x → Among q (map (λ e. e.0) (e ∷ es))
-      go more true t k = inl (at_tie q e.0 t)
-      go more false t k = inr (more k)
-
   keys : List ℕ
   keys = map (λ e. e.0) (numbers.entries tree)
 
   key_there : (k : ℕ) → IsSome (numbers.get tree k) → Among k keys
   unfolding keys
-  key_there k t = found_entry k (record_at tree k) (numbers.entries tree) (sym (numbers.get-entries tree k) ∙ there_is tree k t)
+  key_there k t = map_among (λ (e : ℕ × Known). e.0) (k, record_at tree k) (numbers.entries tree)
+      (get_entry tree k (record_at tree k) (there_is tree k t))
 
   -- what a walk over all nodes costs
   all_visits : sum_by (visit_cost tree) keys ≡ numbers.len tree + 2 * edges_in tree
@@ -116,6 +96,18 @@ module _ (tree : Tree ℕ) where
           let second = sum_by-cons (λ (e : ℕ × Known). length e.1.edges) e es in
           omega (arith, more, first, second)
 
+  is_class_in : ℕ → Bool
+  is_class_in k = is_some (record_at tree k).class
+
+  all_classes : count_by is_class_in keys ≡ classes_in nat_cmp tree
+  unfolding keys is_class_in
+  all_classes =
+      sum_by-map (λ k. cond (is_class_in k) 1 0) (λ e. e.0) (numbers.entries tree)
+      ∙ sum_alike (λ e. cond (is_class_in e.0) 1 0) (λ (e : ℕ × Known). cond (is_some e.1.class) 1 0)
+      (numbers.entries tree)
+      (λ e m. ap (λ (n : Known). cond (is_some n.class) 1 0) (record_is e.0 e.1 (entry_get tree e m)))
+      ∙ sym (sum_by-map (λ (n : Known). cond (is_some n.class) 1 0) (λ (e : ℕ × Known). e.1) (numbers.entries tree))
+
   -- different numbers of nodes are no more than the nodes
   pub few_there : (listed : List ℕ) → EachOnce listed → ((k : ℕ) → Among k listed → IsSome (numbers.get tree k))
       → length listed ≤ numbers.len tree
@@ -136,12 +128,23 @@ module _ (tree : Tree ℕ) where
     visits_within = subst (λ n. sum_by (visit_cost tree) listed ≤ n) all_visits
         (sum_within (visit_cost tree) listed keys (each_once listed are.once) within)
 
+    -- as many of them are classes as there are classes, at the most
+    classes_within : count_by is_class_in listed ≤ classes_in nat_cmp tree
+    classes_within = subst (λ n. count_by is_class_in listed ≤ n) all_classes
+        (sum_within (λ k. cond (is_class_in k) 1 0) listed keys (each_once listed are.once) within)
+
     -- there are no more numbers than nodes
     pub listed_few : length listed ≤ numbers.len tree
     listed_few = few_there listed (each_once listed are.once) are.there
 
   pub numbers_few : (nodes : List NodeNo) → AreNodesOf tree (seen.numbers nodes) → length nodes ≤ numbers.len tree
   numbers_few nodes are = subst (λ n. n ≤ numbers.len tree) (length-map nodes number) (listed_few (seen.numbers nodes) are)
+
+  pub classes_few : (nodes : List NodeNo) → AreNodesOf tree (seen.numbers nodes)
+      → count_by (is_class_at tree) nodes ≤ classes_in nat_cmp tree
+  unfolding is_class_in
+  classes_few nodes are = subst (λ n. n ≤ classes_in nat_cmp tree)
+      (sum_by-map (λ k. cond (is_class_in k) 1 0) number nodes) (classes_within (seen.numbers nodes) are)
 
   -- on a walk: the descendants by the first so many edges of a node, and by one edge more
   module _ (k n : ℕ) where
@@ -287,6 +290,46 @@ module _ (dims : ℕ) (tree : Tree ℕ) (is : IsTree dims tree) where
       refl refl in
       let most = visits_within tree (subtree tree values root) are in
       omega (arith, one, s, most)
+
+-- a tree has no more nodes than a list that has all of them
+pub all_listed : (listed : List ℕ) (tree : Tree ℕ) → ((k : ℕ) → IsSome (numbers.get tree k) → Among k listed)
+    → numbers.len tree ≤ length listed
+all_listed [] tree all =
+    let none : tree ≡ numbers.empty = numbers.same_map nat_cmp_total numbers.nat_cmp-IsAntisymmetric tree numbers.empty
+    (λ q. no_record q (numbers.get tree q) refl ∙ sym (numbers.get-empty nat_cmp q)) in
+    omega (arith, ap numbers.len none, numbers.len-empty nat_cmp Known)
+  where
+    no_record : (q : ℕ) (o : Option Known) → numbers.get tree q ≡ o → o ≡ None
+    no_record q None e = refl
+    no_record q (Some n) e = absurd (all q (subst (λ o. IsSome o) (sym e) refl))
+all_listed (x ∷ xs) tree all =
+    let less = all_listed xs (numbers.remove tree x) rest in
+    let size = numbers.len-remove nat_cmp_total tree x in
+    smaller (numbers.contains_key tree x) size less
+  where
+    rest : (k : ℕ) → IsSome (numbers.get (numbers.remove tree x) k) → Among k xs
+    rest k t = by_tie (eq_by_cmp nat_cmp k x) refl
+      where
+        same_tie : k ≡ x → eq_by_cmp nat_cmp k x ≡ true
+        same_tie s = ap is_eq (ap (λ y. nat_cmp k y) (sym s) ∙ tied_itself nat_cmp_total k)
+
+        by_tie : (b : Bool) → eq_by_cmp nat_cmp k x ≡ b → Among k xs
+        by_tie true e =
+            let gone : numbers.get (numbers.remove tree x) k ≡ None = numbers.get-remove nat_cmp_total tree x k
+            ∙ cond-true (eq_by_cmp nat_cmp k x) None (numbers.get tree k) e in
+            absurd (true≢false (sym t ∙ ap is_some gone))
+        by_tie false e =
+            let kept : numbers.get (numbers.remove tree x) k ≡ numbers.get tree k
+            = numbers.get-remove nat_cmp_total tree x k ∙ cond-false (eq_by_cmp nat_cmp k x) None (numbers.get tree k) e in
+            elim (all k (subst (λ o. IsSome o) kept t)) [
+              | inl s ↦ absurd (true≢false (sym (same_tie s) ∙ e))
+              | inr m ↦ m
+            ]
+
+    smaller : (b : Bool) → numbers.len (numbers.remove tree x) ≡ cond b (numbers.len tree - 1) (numbers.len tree)
+        → numbers.len (numbers.remove tree x) ≤ length xs → numbers.len tree ≤ length (x ∷ xs)
+    smaller true e le = omega (arith, e, le)
+    smaller false e le = omega (arith, e, le)
 
 -- a list of the same nodes serves for a tree with the same numbers
 pub same_nodes : (tree after : Tree ℕ) (listed : List ℕ) (f : Known → Known)

@@ -180,6 +180,16 @@ taken-by true b x e = absurd (cc e)
 taken-by false true x e = absurd (cc e)
 taken-by false false x e = refl
 
+-- no refusal shows that there is room
+pub room-free : (a : Bool) (most count : ℕ)
+    → None ≡ cond a (Some refusals.DimsFull) (cond (nat_lt most count) (Some refusals.NodesFull) None) → count ≤ most
+room-free true most count e = absurd (cc e)
+room-free false most count e = by_test (nat_lt most count) refl e
+  where
+    by_test : (b : Bool) → nat_lt most count ≡ b → None ≡ cond b (Some refusals.NodesFull) None → count ≤ most
+    by_test true s f = absurd (cc f)
+    by_test false s f = grind (arith, s)
+
 abbrev pub full_by : State → ℕ → Option WidenRefused
 full_by s count = cond (nat_le (max_dims s.schema.version) (length s.schema.dims)) (Some refusals.DimsFull)
     (cond (nat_lt s.schema.nodes count) (Some refusals.NodesFull) None)

@@ -1,15 +1,17 @@
 -- How far the classes of a tree are handed on to new children, as its nodes are gone through.
-use Rattle.std.specs.Prelude.{ℕ, Bool, true, false, ◌≡◌, ◌≢◌, ◌⊎◌, ◌<◌, List, Some, None, [], length, is_some, nat_eq}
+use Rattle.std.specs.Prelude.{ℕ, Bool, true, false, ◌≡◌, ◌≢◌, ◌⊎◌, ◌<◌, ◌≤◌, ◌+◌, List, Some, None, [], length, is_some, nat_eq, IsSome}
 use Rattle.std.specs.FinMap as map
 use Rattle.std.specs.List.{AllByRecursion, list_any}
 use Rattle.std.specs.Option.{option_map}
+use Rattle.std.specs.Ordering.{nat_cmp}
 use Rattle.cell_core.specs.declared.cell.NodeNo.{NodeNo}
-use Rattle.cube_defs.specs.Cell.{Cell, with_value}
+use Rattle.cube_defs.specs.Cell.{Cell, depth, with_value}
 use Rattle.cube_defs.specs.Rows.{Agg}
 use Rattle.cube_defs.specs.Tree.{Edge, Tree}
 use Rattle.qc_arena.specs.Edges.{with_edge}
-use Rattle.qc_arena.specs.Map.{Known, with_class, with_forced}
+use Rattle.qc_arena.specs.Map.{Arena, Known, is_open, with_class, with_forced}
 use Rattle.qc_arena.specs.RecordReaders.{record_at}
+use Rattle.tree_laws.specs.Counts.{classes_in}
 use Rattle.widen_laws.specs.Widened.{child_by_number, with_forced_value_by_number, with_any_by_number}
 
 -- the label of a new child
@@ -30,6 +32,25 @@ made_child dim parent class cell
 pub record IsWide (dims : ℕ) (tree : Tree ℕ) : Type 0 where
   pub cells : (k : ℕ) (n : Known) → map.get tree k ≡ Some n → length n.cell ≡ dims
   pub labels : (k : ℕ) (n : Known) → map.get tree k ≡ Some n → AllByRecursion (λ x. x.dim < dims) n.edges
+
+-- whether a node is a class
+abbrev pub is_class_at : Tree ℕ → NodeNo → Bool
+is_class_at tree x = is_some (record_at tree x.0).class
+
+-- a batch is open, the node is there, and its values are all before the dimension, which is one of the tree's
+pub record CanTakeChild (dim : ℕ) (tree : Arena) (k : ℕ) : Type 0 where
+  pub opened : is_open tree ≡ true
+  pub there : IsSome (map.get tree.now k)
+  pub shallow : depth (record_at tree.now k).cell ≤ dim
+  pub within : dim < tree.width
+
+-- a new child for each class is within the most nodes
+abbrev pub HasRoom : Arena → Type 0
+HasRoom tree = map.len tree.now + classes_in nat_cmp tree.now ≤ tree.max
+
+-- a new child for this node is, if it is a class
+abbrev pub HasRoomAt : Arena → ℕ → Type 0
+HasRoomAt tree k = is_some (record_at tree.now k).class ≡ true → map.len tree.now < tree.max
 
 -- the classes of these numbers have handed their aggregates to children, and the other nodes have Any in the new
 -- dimension

@@ -8,6 +8,7 @@ use Rattle.qc_arena.specs.Map.{is_open, shape_of}
 use Rattle.qc_schema.specs.Schema.{IsLayout, Layout}
 use Rattle.tree_search.specs.Found.{IsTreeOf}
 use Rattle.value_dict.specs.TextLists.{IsDictionary, with_dim}
+use Rattle.warehouse.specs.ClassMoves.{HasRoom}
 use Rattle.warehouse.specs.Steps.{frame}
 use Rattle.warehouse.specs.Widening.{KeepsWidened}
 use Rattle.warehouse.specs.declared.cube.Cube.{Cube}
@@ -44,6 +45,7 @@ pub record CanWiden (wide : Layout) (cube : Cube) : Type 0 where
   pub source : IsTreeOf cube.table.dims cube.tree.now
       (record { measures = cube.table.measures; rows = rows_of cube.table })
   pub images : cube.tree.last ≡ finmap.empty
+  pub room : HasRoom cube.tree
 
 -- no batch is open any more, and there are no before-images
 pub record AreClosed (cube cube' : Cube) : Type 0 where

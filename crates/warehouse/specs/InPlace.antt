@@ -1,5 +1,5 @@
 -- What a batch leaves of the tree as it was, and what it may cost.
-use Rattle.std.specs.Prelude.{ℕ, ◌+◌, ◌*◌, ◌^◌, ◌≡◌, ◌≤◌, IsOk, length, not, true, false, nat_eq, List, [], ◌∷◌, ◌++◌, filter, map, Option}
+use Rattle.std.specs.Prelude.{ℕ, ◌+◌, ◌*◌, ◌^◌, ◌≡◌, ◌≤◌, length, not, true, false, nat_eq, List, [], ◌∷◌, ◌++◌, filter, map, Option}
 use Rattle.std.specs.Prelude.{Bool, None, Some, Ok, is_some}
 use Rattle.std.specs.List.{All}
 use Rattle.std.specs.FinMap as finmap
@@ -16,7 +16,7 @@ use Rattle.cube_laws.specs.Recoding.{coded_row}
 use Rattle.qc_arena.specs.Map.{Arena, ImageMap, is_touched}
 use Rattle.qc_schema.specs.Schema.{Layout}
 use Rattle.value_dict.specs.Decoded.{place_in}
-use Rattle.warehouse.specs.Batch.{Apply, is_among, result, texts_after}
+use Rattle.warehouse.specs.Batch.{is_among, texts_after}
 use Rattle.warehouse.specs.State.{Contents, State}
 
 module _ {A : Type 0} where
@@ -125,10 +125,6 @@ HasNoOtherImages before bytes now =
 -- and no more steps are taken than a batch may cost, from one count of them to another
 abbrev pub IsWithinCost : State → List ℕ → ℕ → ℕ → Type 0
 IsWithinCost before bytes from to = OfBatch before.schema bytes (λ changes. to ≤ from + cost_in before changes)
-
--- the file is a batch that a state takes
-abbrev pub IsAccepted : State → List ℕ → Type 0
-IsAccepted before bytes = IsOk (result before Apply bytes)
 
 -- the row with an id goes out of a table
 pub record IsDeletion (table : Places) (id : ℕ) (d : Deletion) : Type 0 where

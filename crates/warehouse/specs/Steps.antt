@@ -8,9 +8,9 @@ use Rattle.cube_defs.specs.Rows.{Row}
 use Rattle.cube_defs.specs.Text.{Text, text_cmp}
 use Rattle.cube_defs.specs.Tree.{IsCanonical, nodes}
 use Rattle.base_table.specs.Places.{Places, has_id, row_at, rows_in, values_of}
-use Rattle.csv_load.specs.Batch.{Change, Delete, Insert, deleted, inserted}
+use Rattle.csv_load.specs.Batch.{Batch, Change, Delete, Insert, IsBatch, deleted, inserted}
 use Rattle.qc_arena.specs.Map.{Arena}
-use Rattle.value_dict.specs.TextLists.{cut, learnt_in}
+use Rattle.value_dict.specs.TextLists.{IsDictionary, TextLists, cut, learnt_in}
 use Rattle.warehouse.specs.Batch as batches
 use Rattle.warehouse.specs.Batch.{Refusal, full_dim, refusal_of, rows_after, with_tuple}
 use Rattle.warehouse.specs.State.{State, ids_of}
@@ -60,6 +60,12 @@ pub record AreChangeIds (gone come : List ℕ) (changes : List (Change Text)) : 
 abbrev pub is_there : List (Row ℕ) → Change Text → Bool
 is_there rows (Delete id) = false
 is_there rows (Insert row) = has_id rows row.id
+
+-- the texts of a batch can be learnt into a dictionary
+pub record CanLearn (dict : TextLists) (batch : Batch) : Type 0 where
+  pub lists : length dict.lists ≡ batch.dims
+  pub dictionary : IsDictionary dict
+  pub valid : IsBatch batch
 
 -- a tuple's texts are learnt, and the cell has their codes
 pub record IsLearnt (before now : List (List Text)) (tuple : List Text) (cell : Cell ℕ) : Type 0 where

@@ -1,10 +1,10 @@
 // Learns texts, row by row or dimension by dimension.
 ghost use Rattle.std.specs.Prelude.{[], Err, IfOk, IfSome, OnOk, Some, false, length, map, option_map, slice_set, take, ◌<◌, ◌≡◌, ◌≤◌};
-ghost use Rattle.csv_load.specs.Batch.{IsBatch, change_at, is_deletion, row_of};
+ghost use Rattle.csv_load.specs.Batch.{change_at, is_deletion, row_of};
 ghost use Rattle.value_dict.specs.TextLists.{IsDictionary, list_at};
 ghost use Rattle.warehouse.specs.Batch.{full_dim, texts_after, with_tuple};
 ghost use Rattle.warehouse.specs.Batch as batches;
-ghost use Rattle.warehouse.specs.Steps.{AreLonger, IsLearnt, IsOver, column_after};
+ghost use Rattle.warehouse.specs.Steps.{AreLonger, CanLearn, IsLearnt, IsOver, column_after};
 ghost use Rattle.warehouse.specs.Stored.{refusal_in};
 
 use crate::Memory;
@@ -38,10 +38,8 @@ pub(crate) fn learn_tuple(
     requires first { 1 ≤ k }
     requires last { k ≤ length batch.now.changes }
     requires inserts { is_deletion (change_at batch.now.changes k) ≡ false }
-    requires dims { length dict.old.lists ≡ batch.now.dims }
     requires cell_dims { length cell.old ≡ batch.now.dims }
-    requires dictionary { IsDictionary dict.old }
-    requires valid { IsBatch batch.now }
+    requires can { CanLearn dict.old batch.now }
     ensures learnt { OnOk result
         (IsLearnt dict.old.lists dict.new.lists
         (row_of (change_at batch.now.changes k)).tuple cell.new) }
@@ -65,8 +63,7 @@ pub(crate) fn learn_tuple(
 // Learns the texts of the insertions in a dimension.
 fn learn_column(dict: &mut Dict, batch: &RawBatch, dim: u8) -> Result<(), Learn>
     requires dim { dim < batch.now.dims }
-    requires dims { length dict.old.lists ≡ batch.now.dims }
-    requires dictionary { IsDictionary dict.old }
+    requires can { CanLearn dict.old batch.now }
     ensures ok { OnOk result
         (dict.new.lists ≡ slice_set dict.old.lists dim
         (column_after (list_at dict.old dim) dim batch.now.changes)) }
@@ -91,9 +88,7 @@ fn learn_column(dict: &mut Dict, batch: &RawBatch, dim: u8) -> Result<(), Learn>
 // The first dimension that would have too many texts. Some texts are learnt on the way.
 fn first_full(dict: &mut Dict, batch: &RawBatch, dims: u8) -> Result<u8, Memory>
     requires dims { dims ≡ batch.now.dims }
-    requires lists { length dict.old.lists ≡ batch.now.dims }
-    requires dictionary { IsDictionary dict.old }
-    requires valid { IsBatch batch.now }
+    requires can { CanLearn dict.old batch.now }
     requires over { IsOver dict.old.max (texts_after dict.old.lists batch.now.changes) }
     ensures first { IfOk result
         (λ dim. full_dim dict.old.max (texts_after dict.old.lists batch.now.changes) ≡ Some dim) }
@@ -114,9 +109,7 @@ fn first_full(dict: &mut Dict, batch: &RawBatch, dims: u8) -> Result<u8, Memory>
 /// The refusal that names the first dimension that would have too many texts.
 pub(crate) fn values_full(dict: &mut Dict, batch: &RawBatch, lens: &[u32]) -> Refused
     requires lens { lens.now ≡ map length dict.old.lists }
-    requires lists { length dict.old.lists ≡ batch.now.dims }
-    requires dictionary { IsDictionary dict.old }
-    requires valid { IsBatch batch.now }
+    requires can { CanLearn dict.old batch.now }
     requires over { IsOver dict.old.max (texts_after dict.old.lists batch.now.changes) }
     ensures refusal { IfSome (refusal_in result)
         (λ refusal. option_map (λ dim. batches.ValuesFull dim)

@@ -8,7 +8,6 @@ ghost use Rattle.std.specs.Prelude.{Err, IfOk, IsSome, None, Ok, OnErr, OnOk, So
 ghost use Rattle.aggregates.specs.Views.{agg_in};
 ghost use Rattle.base_table.specs.Places.{rows_of, widened, with_code};
 ghost use Rattle.cell_core.specs.Gives.{Gives};
-ghost use Rattle.cube_defs.specs.Cell.{depth};
 ghost use Rattle.iceberg_query.specs.Subtree.{numbers};
 ghost use Rattle.qc_arena.specs.Map.{CanChange, frame, is_open, is_touched};
 ghost use Rattle.qc_arena.specs.RecordReaders.{record_at};
@@ -18,7 +17,7 @@ ghost use Rattle.tree_laws.specs.Counts.{classes_in};
 ghost use Rattle.tree_search.specs.Found.{IsTreeOf};
 ghost use Rattle.warehouse.specs.Changing.{AreParts, contents_of, state_in};
 ghost use Rattle.warehouse.specs.Dimensions.{AreRestored, AreClosed, AreWidened, CanWiden};
-ghost use Rattle.warehouse.specs.ClassMoves.{MovesClassTo, HasChild, IsWide, with_forced_child};
+ghost use Rattle.warehouse.specs.ClassMoves.{CanTakeChild, MovesClassTo, HasChild, HasRoom, HasRoomAt, IsWide, with_forced_child};
 ghost use Rattle.warehouse.specs.NodeLists.{AreNodesOf, MovesClassOf};
 ghost use Rattle.warehouse.specs.State.{IsIndexed};
 ghost use Rattle.warehouse.specs.Stored.{applied_in};
@@ -34,7 +33,7 @@ use base_table::Table;
 use cell_core::{NodeNo, Steps};
 use cube_defs::{MAX_DIMS, MAX_TEXT};
 use measure_index::Index;
-use qc_arena::{Forced, Nodes, QcArena};
+use qc_arena::{ArenaRefused, Forced, Nodes, QcArena};
 use qc_schema::Schema;
 use std::alloc::{AllocError, Global};
 use std::sync::ledger::Ledger;
@@ -49,10 +48,8 @@ fn add_child<L: Ledger>(
     class: Agg,
     steps: &mut Steps<L>,
 ) -> Result<NodeNo, Memory>
-    requires opened { is_open tree.old ≡ true }
-    requires node { IsSome (finmap.get tree.old.now node.0) }
-    requires room { depth (record_at tree.old.now node.0).cell ≤ dim }
-    requires dim { dim < tree.old.width }
+    requires node { CanTakeChild dim tree.old node.0 }
+    requires few { finmap.len tree.old.now < tree.old.max }
     ensures child { IfOk result
         (λ child. HasChild dim node.0 (agg_in class) tree.old.now tree.new.now child.0) }
     ensures touched { IfOk result (λ child. (q : ℕ) → is_touched tree.old q ≡ true
@@ -62,8 +59,8 @@ fn add_child<L: Ledger>(
 {
     let child = match tree.add_node(Some((node, dim, 0)), steps) {
         Ok(child) => child,
-        // It was checked before that there is room.
-        Err(_) => return Err(AllocError),
+        Err(ArenaRefused::Full) => unreachable!(),
+        Err(ArenaRefused::Memory) => return Err(AllocError),
     };
     tree.set_class(child, Some(class), steps);
     Ok(child)
@@ -105,10 +102,8 @@ fn move_class_to_child<L: Ledger>(
     class: Agg,
     steps: &mut Steps<L>,
 ) -> Result<NodeNo, Memory>
-    requires opened { is_open tree.old ≡ true }
-    requires node { IsSome (finmap.get tree.old.now node.0) }
-    requires room { depth (record_at tree.old.now node.0).cell ≤ dim }
-    requires dim { dim < tree.old.width }
+    requires node { CanTakeChild dim tree.old node.0 }
+    requires few { finmap.len tree.old.now < tree.old.max }
     ensures handed { IfOk result
         (λ child. MovesClassTo dim node.0 (agg_in class) tree.old.now tree.new.now child.0) }
     ensures frame { frame tree.new ≡ frame tree.old }
@@ -134,10 +129,8 @@ fn move_class<L: Ledger>(
     nodes: &mut Vec<NodeNo>,
     steps: &mut Steps<L>,
 ) -> Result<(), Memory>
-    requires opened { is_open tree.old ≡ true }
-    requires node { IsSome (finmap.get tree.old.now node.0) }
-    requires room { depth (record_at tree.old.now node.0).cell ≤ dim }
-    requires dim { dim < tree.old.width }
+    requires node { CanTakeChild dim tree.old node.0 }
+    requires few { HasRoomAt tree.old node.0 }
     ensures moved { OnOk result (MovesClassOf dim node.0 tree.old.now tree.new.now nodes.old.items
         nodes.new.items (record_at tree.old.now node.0).class) }
     ensures frame { frame tree.new ≡ frame tree.old }
@@ -168,6 +161,7 @@ fn widen_tree<L: Ledger>(
     requires few { tree.old.width < MAX_DIMS }
     requires wide { IsWide tree.old.width tree.old.now }
     requires nodes { AreNodesOf tree.old.now (numbers nodes.old.items) }
+    requires room { HasRoom tree.old }
     ensures kept { OnOk result (KeepsWidened tree.old.width tree.old.now tree.new.now) }
     ensures nodes { OnOk result (AreNodesOf tree.new.now (numbers nodes.new.items)) }
     ensures count { OnOk result (length nodes.new.items ≤ 2 * length nodes.old.items) }
@@ -215,6 +209,7 @@ fn widen_both<L: Ledger>(
     requires tree { IsTreeOf table.old.dims tree.old.now
         (record { measures = table.old.measures; rows = rows_of table.old }) }
     requires nodes { AreNodesOf tree.old.now (numbers nodes.old.items) }
+    requires room { HasRoom tree.old }
     ensures table { table.new ≡ widened 0 table.old }
     ensures rows { rows_of table.new ≡ map (with_code 0) (rows_of table.old) }
     ensures tree { OnOk result (IsTreeOf (table.old.dims + 1) tree.new.now

@@ -11,7 +11,7 @@ use Rattle.warehouse.proofs.learning.first_full.Goals as goal
 pub columns-init : goal.columns-init
 columns-init c = record {
   max = refl;
-  dictionary = c.requires.dictionary;
+  dictionary = c.requires.can.dictionary;
   longer = longer-same c.args.dict.now.lists;
   left = λ k le. refl;
   within = λ k lt. absurd (omega arith);
@@ -37,9 +37,9 @@ returns-in-Err-Full-clause-first c =
     let lt : dim < batch.dims = omega (arith, c.columns-test.true, c.requires.dims) in
     let over = c.learn_column.ensures.full (c.in-Err-Full.is ∙ ap Err c.in-Err-Full.field-0-is) in
     let here : get_or c.columns.dict.lists dim [] ≡ get_or lists dim [] = inv.left dim (omega arith) in
-    let at = λ (k : ℕ) (below : k < batch.dims). texts-at batch lists k c.requires.valid c.requires.lists below in
+    let at = λ (k : ℕ) (below : k < batch.dims). texts-at batch lists k c.requires.can.valid c.requires.can.lists below in
     full-first max (texts_after lists batch.changes) dim
-    (omega (arith, lt, length-after lists batch.changes, c.requires.lists))
+    (omega (arith, lt, length-after lists batch.changes, c.requires.can.lists))
     (λ k below. omega (arith, inv.within k below, ap (λ (texts : List Text). length texts) (at k (omega arith))))
     (omega (
       arith,
@@ -57,7 +57,7 @@ columns-preserved c =
     let dim = c.columns.dim in
     let here : get_or c.columns.dict.lists dim [] ≡ get_or lists dim [] = inv.left dim (omega arith) in
     let there : dim < length c.columns.dict.lists
-    = omega (arith, c.columns-test.true, c.requires.dims, c.requires.lists, inv.longer.dims) in
+    = omega (arith, c.columns-test.true, c.requires.dims, c.requires.can.lists, inv.longer.dims) in
     let learnt : get_or c.learn_column.new.dict.lists dim [] ≡ column_after (get_or lists dim []) dim batch.changes =
     ap (λ (ls : List (List Text)). get_or ls dim []) c.in-Ok.ensures.ok
     ∙ get_or-set_same c.columns.dict.lists dim
@@ -90,11 +90,11 @@ unreachable-requires c =
     let after = texts_after lists batch.changes in
     let within : All (λ (texts : List Text). length texts ≤ max) after =
     All-from_get_or (λ (texts : List Text). length texts ≤ max) after [] (λ k lt.
-    let below : k < batch.dims = omega (arith, lt, length-after lists batch.changes, c.requires.lists) in
+    let below : k < batch.dims = omega (arith, lt, length-after lists batch.changes, c.requires.can.lists) in
     omega (
       arith,
       inv.within k (omega (arith, below, c.columns-test.false, c.requires.dims)),
-      ap (λ (texts : List Text). length texts) (texts-at batch lists k c.requires.valid c.requires.lists below),
+      ap (λ (texts : List Text). length texts) (texts-at batch lists k c.requires.can.valid c.requires.can.lists below),
     ))
     in
     let none : full_dim max after ≡ None = full-none max after within in

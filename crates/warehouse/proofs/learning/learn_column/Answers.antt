@@ -19,7 +19,7 @@ pub changes-init : goal.changes-init
 changes-init c = record {
   lists = sym (set-get_or c.args.dict.now.lists c.args.dim);
   max = refl;
-  dictionary = c.requires.dictionary;
+  dictionary = c.requires.can.dictionary;
   longer = longer-same c.args.dict.now.lists;
 }
 
@@ -33,7 +33,7 @@ returns-in-Err-clause-full c = λ e.
     let is : is_deletion (change_at changes (k + 1)) ≡ false
     = grind (arith, c.is_delete.ensures, c.if-not-is_delete.true) in
     let texts = column_after (get_or lists dim []) dim (take k changes) in
-    let there : dim < length lists = omega (arith, c.requires.dim, c.requires.dims) in
+    let there : dim < length lists = omega (arith, c.requires.dim, c.requires.can.lists) in
     let here : get_or c.changes.dict.lists dim [] ≡ texts
     = ap (λ (ls : List (List Text)). get_or ls dim []) c.changes.invariant.lists
     ∙ get_or-set_same lists dim texts [] there in
@@ -52,7 +52,7 @@ changes-preserved c =
     let k = c.changes.before in
     let lt : k < length changes = omega (arith, c.changes-test.true, c.len-before-end.ensures.count) in
     let texts = column_after (get_or lists dim []) dim (take k changes) in
-    let there : dim < length lists = omega (arith, c.requires.dim, c.requires.dims) in
+    let there : dim < length lists = omega (arith, c.requires.dim, c.requires.can.lists) in
     elim c.if-not-is_delete.branch [
       | then-not-is_delete+in-Ok w ↦
           let is : is_deletion (change_at changes (k + 1)) ≡ false

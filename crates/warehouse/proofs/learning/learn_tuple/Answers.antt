@@ -12,7 +12,7 @@ pub dims-init : goal.dims-init
 dims-init c = record {
   cell = refl;
   max = refl;
-  dictionary = c.requires.dictionary;
+  dictionary = c.requires.can.dictionary;
   longer = longer-same c.args.dict.now.lists;
   done = λ k lt. absurd (omega arith);
   left = λ k le. refl;
@@ -26,13 +26,13 @@ returns-in-Err-clause-full c = λ e.
     let tuple = tuple_of (change_at batch.changes c.args.k) in
     let wide : length tuple ≡ batch.dims
     = insertion-wide batch.dims batch.measures (change_at batch.changes c.args.k) c.requires.inserts
-    (loaded-at batch c.args.k c.requires.valid c.requires.first c.requires.last) in
+    (loaded-at batch c.args.k c.requires.can.valid c.requires.first c.requires.last) in
     let lt : dim < length lists
-    = omega (arith, c.dims-test.true, c.dims-dim-end.ensures.value, c.requires.dims, c.requires.cell_dims) in
+    = omega (arith, c.dims-test.true, c.dims-dim-end.ensures.value, c.requires.can.lists, c.requires.cell_dims) in
     let same : c.in-Err.refused ≡ Full = cc in
     let both = c.in-Err.ensures.full.0 (ap Err same) in
     let here : get_or c.dims.dict.lists dim [] ≡ get_or lists dim [] = c.dims.invariant.left dim (omega arith) in
-    over-tuple lists tuple dim c.args.dict.now.max lt (omega (arith, lt, wide, c.requires.dims))
+    over-tuple lists tuple dim c.args.dict.now.max lt (omega (arith, lt, wide, c.requires.can.lists))
     (ap₂ code_in (sym here) (sym c.text.ensures) ∙ both.0) (ap (λ (ts : List Text). length ts) (sym here) ∙ both.1
     ∙ c.dims.invariant.max)
 
@@ -48,7 +48,7 @@ dims-preserved c =
       arith,
       c.dims-test.true,
       c.dims-dim-end.ensures.value,
-      c.requires.dims,
+      c.requires.can.lists,
       c.requires.cell_dims,
       inv.longer.dims,
     ) in
@@ -77,15 +77,15 @@ returns-clause-learnt c =
     let inv = c.dims.invariant in
     let wide : length (tuple_of (change_at batch.changes c.args.k)) ≡ batch.dims
     = insertion-wide batch.dims batch.measures (change_at batch.changes c.args.k) c.requires.inserts
-    (loaded-at batch c.args.k c.requires.valid c.requires.first c.requires.last) in
+    (loaded-at batch c.args.k c.requires.can.valid c.requires.first c.requires.last) in
     learnt-all c.args.dict.now.lists c.dims.dict.lists (tuple_of (change_at batch.changes c.args.k)) c.dims.cell
     inv.longer.dims
-    (omega (arith, wide, c.requires.dims)) (omega (arith, inv.cell, c.requires.dims, c.requires.cell_dims))
+    (omega (arith, wide, c.requires.can.lists)) (omega (arith, inv.cell, c.requires.can.lists, c.requires.cell_dims))
     (λ k lt. inv.done k (omega (
       arith,
       lt,
       c.dims-test.false,
       c.dims-dim-end.ensures.value,
-      c.requires.dims,
+      c.requires.can.lists,
       c.requires.cell_dims,
     )))

@@ -1,4 +1,4 @@
-use Rattle.std.proofs.Common.{◌≡◌, ◌+◌, ◌∙◌, ℕ, List, Some, ap, ap₂, arith, length, map, refl, subst, sym, ◌∷◌, []}
+use Rattle.std.proofs.Common.{◌≡◌, ◌+◌, ◌∙◌, ℕ, List, Some, ap, ap₂, arith, length, map, nat_le, refl, subst, sym, ◌∷◌, []}
 use Rattle.std.specs.FinMap as finmap
 use Rattle.std.specs.Ordering.{nat_cmp}
 use Rattle.std.specs.Prelude.{Ok}
@@ -9,7 +9,7 @@ use Rattle.cube_defs.specs.Text.{text_cmp}
 use Rattle.cube_defs.specs.Tree.{Tree, classes}
 use Rattle.qc_arena.specs.Codes.{Shape}
 use Rattle.qc_schema.proofs.CallerLemmas.{dims-few}
-use Rattle.qc_schema.specs.Schema.{IsLayout, Layout, with_dim}
+use Rattle.qc_schema.specs.Schema.{IsLayout, Layout, max_dims, with_dim}
 use Rattle.tree_laws.specs.Counts.{classes_in}
 use Rattle.tree_search.specs.Found.{IsTreeOf}
 use Rattle.value_dict.specs.TextLists as texts
@@ -25,7 +25,7 @@ use Rattle.warehouse.proofs.Counted.{classes-kept, nodes-kept}
 use Rattle.warehouse.proofs.NodeLists.{numbers_few}
 use Rattle.warehouse.proofs.States.{stored-next}
 use Rattle.warehouse.proofs.Trees.{kept-back}
-use Rattle.warehouse.proofs.Wider.{cost-wide, kept-wide, refused-full, state-wide, stored-wide, taken-free}
+use Rattle.warehouse.proofs.Wider.{cost-wide, kept-wide, refused-full, room-free, state-wide, stored-wide, taken-free}
 use Rattle.warehouse.proofs.widening.widen.Goals as goal
 
 pub returns-in-Some-clause-gives : goal.returns-in-Some-clause-gives
@@ -70,6 +70,12 @@ widen_parts-requires-clause-can g c =
           (subst (λ (m : ℕ). IsTreeOf (length schema.dims) tree.now (record { measures = m; rows = rows_of table }))
           (sym stored.measures) kept.from);
       images = c.requires.images;
+      room = omega (
+        arith,
+        kept.max,
+        room-free (nat_le (max_dims schema.version) (length schema.dims)) schema.nodes
+            (finmap.len tree.now + classes_in nat_cmp tree.now) (sym c.in_default.is ∙ c.widen_refusal.ensures),
+      );
     }
 
 pub returns-in-Err-clause-same : goal.returns-in-Err-clause-same

@@ -8,9 +8,13 @@ use Rattle.tree_laws.proofs.CallerLemmas.{some_same}
 use Rattle.tree_search.specs.Found.{IsTreeOf}
 use Rattle.value_dict.specs.TextLists.{IsDictionary, without_last_dim}
 use Rattle.value_dict.proofs.CallerLemmas.{came_and_gone}
+use Rattle.warehouse.specs.ClassMoves.{HasRoom}
 use Rattle.warehouse.specs.Steps.{closed, frame}
 use Rattle.warehouse.specs.Widening.{KeepsWidened}
 use Rattle.warehouse.proofs.widening.widen_parts.Goals as goal
+
+pub widen_both-requires-clause-room : goal.widen_both-requires-clause-room
+widen_both-requires-clause-room g c = subst HasRoom (sym c.begin-2.ensures) c.requires.can.room
 
 pub returns-in-Ok-clause-widened : goal.returns-in-Ok-clause-widened
 returns-in-Ok-clause-widened g c =

@@ -1,9 +1,9 @@
 use Rattle.std.proofs.Common.{◌≡◌, ◌∙◌, Some, ap, arith, refl, slice_get, sym, subst}
 use Rattle.std.proofs.lemmas.Option.{slice_get-get_or}
-use Rattle.qc_arena.specs.Map.{frame}
+use Rattle.qc_arena.specs.Map.{Arena, frame, is_open}
 use Rattle.warehouse.specs.ClassMoves.{IsWide}
 use Rattle.warehouse.specs.Widening.{KeepsWidened}
-use Rattle.warehouse.proofs.MovedClasses.{arrives, goes_on, is_shallow, is_there, sets_out}
+use Rattle.warehouse.proofs.MovedClasses.{arrives, goes_on, has_room, is_shallow, is_there, sets_out}
 use Rattle.warehouse.proofs.widening.widen_tree.Goals as goal
 
 pub places-init : goal.places-init
@@ -28,11 +28,17 @@ move_class-requires-clause-node g c =
     ∙ ap (λ y. Some y) (sym c.index-node.ensures) in
     let at : slice_get old c.places.place ≡ Some x
     = sym (inv.way.front c.places.place (omega (arith, c.places-test.true, c.len-place-end.ensures))) ∙ now in
-    is_there c.dims-dim.result c.places.place before c.places.tree.now old c.places.nodes.items x wide c.requires.nodes
-    inv.way at
+    record {
+      opened = ap is_open inv.frame ∙ c.requires.opened;
+      there = is_there c.dims-dim.result c.places.place before c.places.tree.now old c.places.nodes.items x wide
+          c.requires.nodes inv.way at;
+      shallow = is_shallow c.dims-dim.result c.places.place before c.places.tree.now old c.places.nodes.items x wide
+          c.requires.nodes inv.way at;
+      within = omega (arith, c.dims-dim.ensures.value, ap (λ (a : Arena). a.width) inv.frame);
+    }
 
-pub move_class-requires-clause-room : goal.move_class-requires-clause-room
-move_class-requires-clause-room g c =
+pub move_class-requires-clause-few : goal.move_class-requires-clause-few
+move_class-requires-clause-few g c =
     let before = c.args.tree.now.now in
     let old = c.args.nodes.now.items in
     let inv = c.places.invariant in
@@ -44,8 +50,9 @@ move_class-requires-clause-room g c =
     ∙ ap (λ y. Some y) (sym c.index-node.ensures) in
     let at : slice_get old c.places.place ≡ Some x
     = sym (inv.way.front c.places.place (omega (arith, c.places-test.true, c.len-place-end.ensures))) ∙ now in
-    is_shallow c.dims-dim.result c.places.place before c.places.tree.now old c.places.nodes.items x wide c.requires.nodes
-    inv.way at
+    λ t. let few = has_room c.dims-dim.result c.places.place before c.places.tree.now old c.places.nodes.items x wide
+    c.requires.nodes inv.way at c.args.tree.now.max c.requires.room t in
+    omega (arith, few, ap (λ (a : Arena). a.max) inv.frame)
 
 pub places-preserved : goal.places-preserved
 places-preserved g c =
