@@ -4,7 +4,11 @@ use Rattle.std.specs.FinMap as map
 use Rattle.cube_defs.specs.Tree.{Tree}
 use Rattle.qc_arena.specs.Map.{ImageMap, Known, or_image}
 use Rattle.qc_arena.proofs.CallerLemmas.{get-over, or_twice}
+use Rattle.qc_arena.specs.Looks.{look_of_image}
+use Rattle.qc_arena.specs.declared.images.Look.{Look}
+use Rattle.qc_arena.specs.declared.images.Look.TheVariants.{Gone, Same, Was}
 use Rattle.pinned_view.specs.Past.{first_image, with_all_images}
+use Rattle.pinned_view.specs.Views.{SaysOf}
 
 pub get-past : (images : List ImageMap) (tree : Tree ℕ) (q : ℕ)
     → map.get (with_all_images images tree) q ≡ or_image (first_image images q) (map.get tree q)
@@ -26,3 +30,10 @@ not_gone images tree q e h = by (map.get (with_all_images images tree) q) (past_
     by : (o : Option Known) → o ≡ None → IsSome o → ⊥
     by None e h = true≢false (sym h)
     by (Some r) e h = absurd cc
+
+-- what a look at the first image says of the tree
+pub says_of : (images : List ImageMap) (tree : Tree ℕ) (q : ℕ) (look : Look) → look_of_image look ≡ first_image images q
+    → SaysOf (with_all_images images tree) q look
+says_of images tree q Same e = tt
+says_of images tree q Gone e = past_is images tree q (Some None) e
+says_of images tree q (Was known) e = past_is images tree q (Some (Some known.now)) e

@@ -1,14 +1,18 @@
 -- What pins read as images are kept, and as two lists of images become one.
-use Rattle.std.proofs.Common.{◌≡◌, ℕ, zero, suc, ◌+◌, ◌<◌, ◌≤◌, ◌||◌, refl, sym, ap, ◌∙◌, Bool, false, List, [], ◌∷◌, ◌++◌, drop, length}
-use Rattle.std.proofs.Common.{inl, inr, true≢false, get_or, arith}
-use Rattle.std.proofs.Math.ListN.{set}
-use Rattle.std.proofs.lemmas.Bool.Decides.{eqb_tells}
+use Rattle.std.proofs.Common.{◌≡◌, ℕ, zero, suc, ◌-◌, ◌<◌, ◌≤◌, refl, sym, ap, ap₂, ◌∙◌, cond, false, List, [], ◌∷◌, ◌++◌, drop}
+use Rattle.std.proofs.Common.{length, map, inl, inr, get_or, arith, true≢false, ◌||◌, Bool, length-append}
 use Rattle.std.specs.Prelude.{◌==◌}
-use Rattle.std.specs.List.{list_any}
+use Rattle.std.proofs.Math.ListN.{set}
+use Rattle.std.specs.FinMap as finmap
+use Rattle.std.specs.List.{remove}
+use Rattle.std.specs.Option.{option_or}
+use Rattle.std.proofs.lemmas.Bool.{cases_lt, le-ltb, lt-ltb}
+use Rattle.std.proofs.lemmas.Bool.Decides.{eqb_tells}
 use Rattle.cube_defs.specs.Tree.{Tree}
 use Rattle.qc_arena.specs.Map.{ImageMap, overlaid}
+use Rattle.qc_arena.proofs.CallerLemmas.{over_both}
 use Rattle.pinned_view.specs.Past.{with_all_images}
-use Rattle.pinned_view.specs.Pins.{AreBefore, AreWithin, ReadSame}
+use Rattle.pinned_view.specs.Pins.{AreWithin, IsMergedAt, ReadSame, kept_after, moved_over, place_without, reads_from, tree_at_pin}
 use Rattle.pinned_view.specs.declared.pins.Pin.{Pin}
 
 past-append : (a b : List ImageMap) (tree : Tree ℕ)
@@ -23,77 +27,112 @@ drop-push (suc n) [] images w = absurd (omega arith)
 drop-push (suc n) (i ∷ kept) images w = drop-push n kept images (omega arith)
 
 -- images that come last are read first of all
-pub past-push : (n : ℕ) (kept : List ImageMap) (images : ImageMap) (tree : Tree ℕ) → n ≤ length kept
+past-push : (n : ℕ) (kept : List ImageMap) (images : ImageMap) (tree : Tree ℕ) → n ≤ length kept
     → with_all_images (drop n (kept ++ images ∷ [])) tree ≡ with_all_images (drop n kept) (overlaid images tree)
 past-push n kept images tree w = ap (λ (k : List ImageMap). with_all_images k tree) (drop-push n kept images w)
     ∙ past-append (drop n kept) (images ∷ []) tree
 
-pub pushed : (kept : List ImageMap) (images : ImageMap) (tree : Tree ℕ) (pins : List Pin) → AreWithin (length kept) pins
+pushed : (kept : List ImageMap) (images : ImageMap) (tree : Tree ℕ) (pins : List Pin) → AreWithin (length kept) pins
     → ReadSame kept (overlaid images tree) (kept ++ images ∷ []) tree pins
 pushed kept images tree [] within = tt
 pushed kept images tree (pin ∷ pins) within
     = (past-push pin.from kept images tree within.0, pushed kept images tree pins within.1)
 
-pub before_push : (place place' : ℕ) (pins : List Pin) → place' ≡ place + 1 → AreWithin place pins
-    → AreBefore place' pins
-before_push place place' [] e within = tt
-before_push place place' (pin ∷ pins) e within = (omega (arith, within.0, e), before_push place place' pins e within.1)
+-- after a change pins read the same under its images
+pub read_after : (pins : List Pin) (kept : List ImageMap) (images : ImageMap) (tree : Tree ℕ) → AreWithin (length kept) pins
+    → ReadSame kept (overlaid images tree) (kept_after pins kept images) tree pins
+read_after [] kept images tree within = tt
+read_after (pin ∷ pins) kept images tree within = pushed kept images tree (pin ∷ pins) within
 
-pub within_before : (place : ℕ) (pins : List Pin) → AreBefore place pins → AreWithin place pins
-within_before place [] before = tt
-within_before place (pin ∷ pins) before = (omega (arith, before.0), within_before place pins before.1)
+more_within : (n m : ℕ) (pins : List Pin) → n ≤ m → AreWithin n pins → AreWithin m pins
+more_within n m [] w within = tt
+more_within n m (pin ∷ pins) w within = (omega (arith, w, within.0), more_within n m pins w within.1)
 
--- pins that read the same twice
-pub same_twice : (a b c : List ImageMap) (t u v : Tree ℕ) (pins : List Pin) → ReadSame a t b u pins
-    → ReadSame b u c v pins → ReadSame a t c v pins
-same_twice a b c t u v [] one two = tt
-same_twice a b c t u v (pin ∷ pins) one two = (two.0 ∙ one.0, same_twice a b c t u v pins one.1 two.1)
+pub within_after : (pins : List Pin) (kept : List ImageMap) (images : ImageMap) → AreWithin (length kept) pins
+    → AreWithin (length (kept_after pins kept images)) pins
+within_after [] kept images within = tt
+within_after (pin ∷ pins) kept images within = more_within (length kept) (length (kept ++ images ∷ [])) (pin ∷ pins)
+    (omega (arith, length-append kept (images ∷ []))) within
 
--- the last of a list is put over later images
-pub after_last : (kept : List ImageMap) (n : ℕ) (last later both : ImageMap) → length kept ≡ n + 1
-    → last ≡ get_or kept n last → ((tree : Tree ℕ) → overlaid both tree ≡ overlaid last (overlaid later tree))
-    → (place : ℕ) (tree : Tree ℕ) → place ≤ n
-    → with_all_images (drop place (set kept n both)) tree ≡ with_all_images (drop place kept) (overlaid later tree)
-after_last [] n last later both len at h place tree w = absurd (omega (arith, len))
-after_last (i ∷ []) zero last later both len at h zero tree w
-    = h tree ∙ ap (λ (images : ImageMap). overlaid images (overlaid later tree)) at
-after_last (i ∷ j ∷ kept) zero last later both len at h place tree w = absurd (omega (arith, len))
-after_last (i ∷ []) zero last later both len at h (suc place) tree w = absurd (omega arith)
-after_last (i ∷ kept) (suc n) last later both len at h zero tree w
-    = ap (overlaid i) (after_last kept n last later both (omega (arith, len)) at h 0 tree (omega arith))
-after_last (i ∷ kept) (suc n) last later both len at h (suc place) tree w
-    = after_last kept n last later both (omega (arith, len)) at h place tree (omega arith)
+-- what is at hand of two lists that become one
+pub merged_at : (items : List ImageMap) (n : ℕ) (later older both : ImageMap) → suc n < length items
+    → later ≡ get_or items (suc n) later → older ≡ get_or (remove items (suc n)) n older
+    → ((q : ℕ) → finmap.get both q ≡ option_or (finmap.get older q) (finmap.get later q))
+    → IsMergedAt n items (set (remove items (suc n)) n both)
+merged_at [] n later older both w l o law = absurd (omega (arith, w))
+merged_at (x ∷ []) n later older both w l o law = absurd (omega (arith, w))
+merged_at (x ∷ y ∷ items) zero later older both w l o law = record {
+  front = [];
+  older = older;
+  later = later;
+  both = both;
+  back = items;
+  was = ap₂ (λ (a b : ImageMap). a ∷ b ∷ items) (sym o) (sym l);
+  now = refl;
+  at = refl;
+  merged = law;
+}
+merged_at (x ∷ y ∷ items) (suc n) later older both w l o law =
+    let m = merged_at (y ∷ items) n later older both (omega (arith, w)) l o law in
+    record {
+      front = x ∷ m.front;
+      older = m.older;
+      later = m.later;
+      both = m.both;
+      back = m.back;
+      was = ap (λ (k : List ImageMap). x ∷ k) m.was;
+      now = ap (λ (k : List ImageMap). x ∷ k) m.now;
+      at = omega (arith, m.at);
+      merged = m.merged;
+    }
 
--- pins read the same over the same images
-pub same_list : (kept kept' : List ImageMap) (tree : Tree ℕ) (pins : List Pin) → kept' ≡ kept
-    → ReadSame kept tree kept' tree pins
-same_list kept kept' tree [] e = tt
-same_list kept kept' tree (pin ∷ pins) e
-    = (ap (λ (k : List ImageMap). with_all_images (drop pin.from k) tree) e, same_list kept kept' tree pins e)
+module _ (older later both : ImageMap) (back : List ImageMap)
+    (law : (tree : Tree ℕ) → overlaid both tree ≡ overlaid older (overlaid later tree)) where
+  low : (n : ℕ) (front : List ImageMap) (tree : Tree ℕ) → n ≤ length front
+      → with_all_images (drop n (front ++ both ∷ back)) tree ≡ with_all_images (drop n (front ++ older ∷ later ∷ back)) tree
+  low zero [] tree w = law (with_all_images back tree)
+  low zero (i ∷ front) tree w = ap (overlaid i) (low zero front tree (omega arith))
+  low (suc n) [] tree w = absurd (omega (arith, w))
+  low (suc n) (i ∷ front) tree w = low n front tree (omega (arith, w))
 
--- no pin reads from between the last images and those before them
-pub apart : (place : ℕ) (pins : List Pin) → AreBefore (place + 1) pins
-    → list_any (λ (pin : Pin). pin.from == place) pins ≡ false → AreBefore place pins
-apart place [] before none = tt
-apart place (pin ∷ pins) before none = elim (eqb_tells pin.from place) [
-  | inl s ↦ absurd (true≢false (sym (ap (λ (b : Bool). b || list_any (λ (p : Pin). p.from == place) pins) s.0) ∙ none))
-  | inr s ↦ (
-    less pin.from s.1 before.0,
-    apart place pins before.1 (sym (ap (λ (b : Bool). b || list_any (λ (p : Pin). p.from == place) pins) s.0) ∙ none),
-  )
+  high : (n : ℕ) (front : List ImageMap) → length front < n
+      → drop n (front ++ both ∷ back) ≡ drop (suc n) (front ++ older ∷ later ∷ back)
+  high zero front w = absurd (omega (arith, w))
+  high (suc n) [] w = refl
+  high (suc n) (i ∷ front) w = high n front (omega (arith, w))
+
+  -- what is read from a place other than that of the later images
+  read_without : (front : List ImageMap) (n : ℕ) (tree : Tree ℕ) → (n ≡ suc (length front) → ⊥)
+      → with_all_images (drop (place_without (suc (length front)) n) (front ++ both ∷ back)) tree
+      ≡ with_all_images (drop n (front ++ older ∷ later ∷ back)) tree
+  read_without front n tree other = elim (cases_lt (suc (length front)) n) [
+    | inl lt ↦
+        let after : suc (n - 1) ≡ n = omega (arith, lt) in
+        ap (λ b. with_all_images (drop (cond b (n - 1) n) (front ++ both ∷ back)) tree) (lt-ltb _ _ lt)
+        ∙ ap (λ (k : List ImageMap). with_all_images k tree) (high (n - 1) front (omega (arith, lt)))
+        ∙ ap (λ m. with_all_images (drop m (front ++ older ∷ later ∷ back)) tree) after
+    | inr le ↦ ap (λ b. with_all_images (drop (cond b (n - 1) n) (front ++ both ∷ back)) tree) (le-ltb _ _ le)
+        ∙ low n front tree (omega (arith, le, other))
+  ]
+
+no_pin : (n place : ℕ) (rest : Bool) → (n == place || rest) ≡ false → (n ≡ place → ⊥) × (rest ≡ false)
+no_pin n place rest none = elim (eqb_tells n place) [
+  | inl s ↦ absurd (true≢false (sym (ap (λ b. b || rest) s.0) ∙ none))
+  | inr s ↦ (s.1, sym (ap (λ b. b || rest) s.0) ∙ none)
 ]
-  where
-    less : (n : ℕ) → (n ≡ place → ⊥) → n < place + 1 → n < place
-    less n other is = omega (arith, other, is)
 
--- the last images and those before them are one
-pub joined : (front kept : List ImageMap) (last : ImageMap)
-    → ((place : ℕ) (tree : Tree ℕ) → place < length front
-    → with_all_images (drop place kept) tree ≡ with_all_images (drop place front) (overlaid last tree))
-    → (pins : List Pin) → AreBefore (length front) pins → (tree : Tree ℕ)
-    → ReadSame (front ++ last ∷ []) tree kept tree pins
-joined front kept last h [] before tree = tt
-joined front kept last h (pin ∷ pins) before tree = (
-  h pin.from tree before.0 ∙ sym (past-push pin.from front last tree (omega (arith, before.0))),
-  joined front kept last h pins before.1 tree,
-)
+-- each pin reads the same after a merge of images of which no pin reads the later ones first
+pub merged_reads : (place : ℕ) (kept kept' : List ImageMap) (pins : List Pin) (tree : Tree ℕ) → IsMergedAt place kept kept'
+    → reads_from pins (suc place) ≡ false
+    → map (tree_at_pin kept' tree) (map (moved_over (suc place)) pins) ≡ map (tree_at_pin kept tree) pins
+merged_reads place kept kept' [] tree m none = refl
+merged_reads place kept kept' (pin ∷ pins) tree m none =
+    let two = no_pin pin.from (suc place) (reads_from pins (suc place)) none in
+    let law = λ (t : Tree ℕ). sym (over_both m.older m.later m.both t m.merged) in
+    let one : with_all_images (drop (place_without (suc place) pin.from) kept') tree
+    ≡ with_all_images (drop pin.from kept) tree
+    = ap₂ (λ n (k : List ImageMap). with_all_images (drop (place_without (suc n) pin.from) k) tree) (sym m.at) m.now
+    ∙ read_without m.older m.later m.both m.back law m.front pin.from tree
+    (λ e. two.0 (omega (arith, e, m.at)))
+    ∙ ap (λ (k : List ImageMap). with_all_images (drop pin.from k) tree) (sym m.was) in
+    ap₂ (λ (t : Tree ℕ) (ts : List (Tree ℕ)). t ∷ ts) one (merged_reads place kept kept' pins tree m two.1)

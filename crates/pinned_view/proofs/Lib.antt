@@ -1,5 +1,10 @@
+mod FewLists
 mod FirstImages
 mod Joining
-mod StoredNumbers
+mod Places
 mod Refusing
+mod Settling
+mod Sizes
 mod Staying
+mod StoredFor
+mod StoredNumbers

@@ -1,6 +1,6 @@
 -- What is true of pins stays true as the warehouse changes, and as pins come and go.
-use Rattle.std.proofs.Common.{◌≡◌, ℕ, ◌+◌, ◌-◌, ◌<◌, ◌≤◌, refl, sym, ap, ◌∙◌, subst, Bool, true, false, not, Some, None, List, [], ◌∷◌}
-use Rattle.std.proofs.Common.{◌++◌, cond, drop, length, map, arith, length-append, length-drop, drop-drop}
+use Rattle.std.proofs.Common.{◌≡◌, ℕ, ◌+◌, ◌-◌, ◌<◌, ◌≤◌, refl, sym, ap, ◌∙◌, subst, Bool, true, false, not, Option, Some, None, List, [], ◌∷◌}
+use Rattle.std.proofs.Common.{◌++◌, cond, drop, get_or, length, map, arith, length-append, length-drop, drop-drop}
 use Rattle.std.specs.Prelude.{filter, option_map}
 use Rattle.std.proofs.Math.Seq.{drop-length}
 use Rattle.std.proofs.lemmas.List.{length-map, map-append}
@@ -12,16 +12,21 @@ use Rattle.std.specs.Str.{bytes_eq}
 use Rattle.cube_defs.specs.Rows.{Row}
 use Rattle.cube_defs.specs.Text.{Text}
 use Rattle.cube_defs.specs.Tree.{Tree}
+use Rattle.cell_core.specs.declared.cell.NodeNo.{NodeNo}
 use Rattle.qc_arena.specs.Map.{ImageMap, overlaid}
 use Rattle.qc_schema.specs.Schema.{Layout}
 use Rattle.pinned_view.specs.Past.{with_all_images}
-use Rattle.pinned_view.specs.Pins.{ArePins, AreWithin, IsPin, ReadSame, has_name, moved_back, version_in, was_in}
+use Rattle.pinned_view.specs.Pins.{ArePins, AreWithin, IsPin, KeepsReads, ReadSame, has_name, kept_after, least_place, moved_back}
+use Rattle.pinned_view.specs.Pins.{tree_at_pin, unplaced, version_in, was_in}
 use Rattle.pinned_view.specs.Versions.{AreVersions, Version, version_now, version_of, without}
 use Rattle.pinned_view.specs.Views.{IsRootOf}
 use Rattle.warehouse.specs.Counted.{AreCounted}
 use Rattle.pinned_view.specs.declared.pins.Pin.{Pin}
 use Rattle.pinned_view.specs.declared.pins.TheConstants.{MAX_PINS}
 use Rattle.warehouse.specs.State.{AreContents, Contents, HasTree, State, with_rows}
+use Rattle.warehouse.specs.declared.refused.Stats.{Stats}
+use Rattle.pinned_view.proofs.Joining.{read_after, within_after}
+use Rattle.pinned_view.proofs.Places.{least_after, least_back, least_push}
 
 -- the trees of rows that a state had are those of its rows in another state
 abbrev pub KeepsTrees : State → State → Type 0
@@ -44,31 +49,93 @@ module _ (was now : Contents) (kept kept' : List ImageMap) (schema : now.state.s
     each_stays pins same.1 within.1 are.1,
   )
 
-  -- a change after which each pin reads what it read
-  pub pins_stay : (pins : List Pin) → ReadSame kept was.tree kept' now.tree pins → AreWithin (length kept') pins
-      → now.images ≡ finmap.empty → ArePins was kept pins → ArePins now kept' pins
-  pins_stay pins same within plain are = record {
-    each = each_stays pins same within are.each;
-    few = are.few;
-    distinct = are.distinct;
-    plain = plain;
-  }
+pub within_all : (now : Contents) (kept : List ImageMap) (pins : List Pin) → AllByRecursion (IsPin now kept) pins
+    → AreWithin (length kept) pins
+within_all now kept [] are = tt
+within_all now kept (pin ∷ pins) are = (are.0.within, within_all now kept pins are.1)
 
 -- a file that is taken: what it made of the nodes is kept, and the warehouse has it no more
-pub after_change : (was mid now : Contents) (kept reserved kept' : List ImageMap) (images : ImageMap) (pins : List Pin)
-    → reserved ≡ kept → overlaid mid.images mid.tree ≡ was.tree → images ≡ mid.images
-    → now ≡ record mid { images = finmap.empty }
-    → ((tree : Tree ℕ) → ReadSame reserved (overlaid images tree) kept' tree pins) → AreWithin (length kept') pins
-    → mid.state.schema ≡ was.state.schema
+pub after_change : (was mid now : Contents) (kept kept' : List ImageMap) (pins : List Pin)
+    → overlaid mid.images mid.tree ≡ was.tree → now ≡ record mid { images = finmap.empty }
+    → kept' ≡ kept_after pins kept mid.images → mid.state.schema ≡ was.state.schema
     → KeepsTrees was.state mid.state → ArePins was kept pins → ArePins now kept' pins
-after_change was mid now kept reserved kept' images pins room back moved rest same within schema trees are =
+after_change was mid now kept kept' pins back rest stored schema trees are =
     let left : Contents = record mid { images = finmap.empty } in
-    let before : overlaid images mid.tree ≡ was.tree = ap (λ (i : ImageMap). overlaid i mid.tree) moved ∙ back in
-    let read : ReadSame kept was.tree kept' mid.tree pins =
-    subst (λ (k : List ImageMap). ReadSame k was.tree kept' mid.tree pins) room
-    (subst (λ (t : Tree ℕ). ReadSame reserved t kept' mid.tree pins) before (same mid.tree)) in
+    let after = kept_after pins kept mid.images in
+    let within = within_all was kept pins are.each in
+    let read : ReadSame kept was.tree after mid.tree pins =
+    subst (λ (t : Tree ℕ). ReadSame kept t after mid.tree pins) back (read_after pins kept mid.images mid.tree within) in
+    let stays : ArePins left after pins = record {
+      each = each_stays was left kept after schema trees pins read (within_after pins kept mid.images within) are.each;
+      few = are.few;
+      distinct = are.distinct;
+      first = least_after pins kept mid.images within are.first;
+      plain = refl;
+    } in
     subst (λ (n : Contents). ArePins n kept' pins) (sym rest)
-    (pins_stay was left kept kept' schema trees pins read within refl are)
+    (subst (λ (k : List ImageMap). ArePins left k pins) (sym stored) stays)
+
+names_moved : (pins pins' : List Pin) → map unplaced pins' ≡ map unplaced pins
+    → map (λ (pin : Pin). pin.name.bytes) pins' ≡ map (λ (pin : Pin). pin.name.bytes) pins
+names_moved pins pins' same = sym (map-map (λ (pin : Pin). pin.name.bytes) unplaced pins')
+    ∙ ap (map (λ (pin : Pin). pin.name.bytes)) same ∙ map-map (λ (pin : Pin). pin.name.bytes) unplaced pins
+
+-- pins that are the same but for their places stand for the same versions
+pub versions_moved : (pins pins' : List Pin) → map unplaced pins' ≡ map unplaced pins
+    → map version_in pins' ≡ map version_in pins
+versions_moved pins pins' same = sym (map-map version_in unplaced pins') ∙ ap (map version_in) same
+    ∙ map-map version_in unplaced pins
+
+pin_moved : (now : Contents) (kept kept' : List ImageMap) (pin pin' : Pin) → unplaced pin' ≡ unplaced pin
+    → tree_at_pin kept' now.tree pin' ≡ tree_at_pin kept now.tree pin → pin'.from ≤ length kept' → IsPin now kept pin
+    → IsPin now kept' pin'
+pin_moved now kept kept' pin pin' same read within is =
+    let was : was_in pin' ≡ was_in pin = ap (λ (p : Pin). was_in p) same in
+    let root : pin'.root ≡ pin.root = ap (λ (p : Pin). p.root) same in
+    let stats : pin'.stats ≡ pin.stats = ap (λ (p : Pin). p.stats) same in
+    record {
+      within = within;
+      tree = read ∙ is.tree ∙ ap (λ (c : Contents). c.tree) (sym was);
+      root = subst (λ (c : Contents). IsRootOf (length now.state.schema.dims) c.tree pin'.root) (sym was)
+          (subst (λ (r : Option NodeNo). IsRootOf (length now.state.schema.dims) (was_in pin).tree r) (sym root) is.root);
+      stats = subst (λ (c : Contents). AreCounted c.state.rows pin'.stats) (sym was)
+          (subst (λ (n : Stats). AreCounted (was_in pin).state.rows n) (sym stats) is.stats);
+      has = subst (λ (c : Contents). HasTree (with_rows now.state c.state.rows) c.tree) (sym was) is.has;
+    }
+
+all_moved_over : (now : Contents) (kept kept' : List ImageMap) (pins pins' : List Pin)
+    → map unplaced pins' ≡ map unplaced pins
+    → map (tree_at_pin kept' now.tree) pins' ≡ map (tree_at_pin kept now.tree) pins → AreWithin (length kept') pins'
+    → AllByRecursion (IsPin now kept) pins → AllByRecursion (IsPin now kept') pins'
+all_moved_over now kept kept' [] [] same read within are = tt
+all_moved_over now kept kept' [] (pin' ∷ pins') same read within are
+    = absurd (omega (arith, ap (λ (ps : List Pin). length ps) same))
+all_moved_over now kept kept' (pin ∷ pins) [] same read within are
+    = absurd (omega (arith, ap (λ (ps : List Pin). length ps) same))
+all_moved_over now kept kept' (pin ∷ pins) (pin' ∷ pins') same read within are = (
+  pin_moved now kept kept' pin pin' (ap (λ (ps : List Pin). get_or ps 0 pin) same)
+      (ap (λ (ts : List (Tree ℕ)). get_or ts 0 now.tree) read) within.0 are.0,
+  all_moved_over now kept kept' pins pins' (ap (λ (ps : List Pin). drop 1 ps) same)
+      (ap (λ (ts : List (Tree ℕ)). drop 1 ts) read) within.1 are.1,
+)
+
+-- lists that are settled
+pub pins_settled : (now : Contents) (kept kept' : List ImageMap) (pins pins' : List Pin) → KeepsReads kept pins kept' pins'
+    → ArePins now kept pins → ArePins now kept' pins'
+pins_settled now kept kept' pins pins' keeps are = record {
+  each = all_moved_over now kept kept' pins pins' keeps.pins (keeps.trees now.tree)
+      (keeps.within (within_all now kept pins are.each)) are.each;
+  few = omega (
+    arith,
+    ap (λ (ps : List Pin). length ps) keeps.pins,
+    length-map pins unplaced,
+    length-map pins' unplaced,
+    are.few,
+  );
+  distinct = subst (IsDistinct bytes_eq) (sym (names_moved pins pins' keeps.pins)) are.distinct;
+  first = omega (arith, keeps.first, are.first);
+  plain = are.plain;
+}
 
 -- what is pinned now
 pub pin_now : (now : Contents) (kept : List ImageMap) (pin : Pin) (name : Text) → version_in pin ≡ version_now name now
@@ -90,16 +157,12 @@ pin_now now kept pin name is from root stats valid =
     }
 
 -- where there are no pins
-pub no_pins : (now : Contents) (kept : List ImageMap) (pins : List Pin) → length pins ≡ 0 → now.images ≡ finmap.empty
-    → ArePins now kept pins
+pub no_pins : (now : Contents) (kept : List ImageMap) (pins : List Pin) → length pins ≡ 0 → length kept ≡ 0
+    → now.images ≡ finmap.empty → ArePins now kept pins
 unfolding IsDistinct
-no_pins now kept [] none plain = record { each = tt; few = omega arith; distinct = tt; plain = plain }
-no_pins now kept (pin ∷ pins) none plain = absurd (omega (arith, none))
-
-pub within_all : (now : Contents) (kept : List ImageMap) (pins : List Pin) → AllByRecursion (IsPin now kept) pins
-    → AreWithin (length kept) pins
-within_all now kept [] are = tt
-within_all now kept (pin ∷ pins) are = (are.0.within, within_all now kept pins are.1)
+no_pins now kept [] none first plain
+    = record { each = tt; few = omega arith; distinct = tt; first = first; plain = plain }
+no_pins now kept (pin ∷ pins) none first plain = absurd (omega (arith, none))
 
 -- what is found of the versions is what is found of the pins
 pub find-map : (pins : List Pin) (name : Text)
@@ -155,14 +218,15 @@ distinct-push (other ∷ names) name are apart
 
 -- one pin more, of another name
 pub one_more : (now : Contents) (kept : List ImageMap) (pins : List Pin) (pin : Pin)
-    → find (has_name pin.name.bytes) pins ≡ None → length pins < MAX_PINS → IsPin now kept pin → ArePins now kept pins
-    → ArePins now kept (pins ++ pin ∷ [])
-one_more now kept pins pin new room is are = record {
+    → find (has_name pin.name.bytes) pins ≡ None → length pins < MAX_PINS → pin.from ≡ length kept → IsPin now kept pin
+    → ArePins now kept pins → ArePins now kept (pins ++ pin ∷ [])
+one_more now kept pins pin new room from is are = record {
   each = all-push (IsPin now kept) pins pin are.each is;
   few = omega (arith, length-append pins (pin ∷ []), room);
   distinct = subst (IsDistinct bytes_eq) (sym (map-append (λ (p : Pin). p.name.bytes) pins (pin ∷ [])))
       (distinct-push (map (λ (p : Pin). p.name.bytes) pins) pin.name.bytes are.distinct
       (none_bears pin.name.bytes pins new));
+  first = omega (arith, least_push (length kept) pins pin from, are.first);
   plain = are.plain;
 }
 
@@ -224,11 +288,15 @@ module _ (now : Contents) (kept : List ImageMap) (first : ℕ) where
   all_moved [] room are = tt
   all_moved (pin ∷ pins) room are = (moved_is pin room.0 are.0, all_moved pins room.1 are.1)
 
+none_over : (a b : ℕ) → a ≡ b → b - a ≡ 0
+none_over a b same = omega (arith, same)
+
 -- some pins are left, and images before it that they don't read are cut off
 pub some_left : (now : Contents) (kept : List ImageMap) (pins : List Pin) (keeps : Pin → Bool) (first : ℕ)
+    → first ≡ least_place (length kept) (filter keeps pins)
     → AllByRecursion (λ (pin : Pin). first ≤ pin.from) (filter keeps pins)
     → ArePins now kept pins → ArePins now (drop first kept) (map (moved_back first) (filter keeps pins))
-some_left now kept pins keeps first room are =
+some_left now kept pins keeps first least room are =
     let left = filter keeps pins in
     record {
       each = all_moved now kept first left room (all-filter (IsPin now kept) keeps pins are.each);
@@ -240,6 +308,8 @@ some_left now kept pins keeps first room are =
       );
       distinct = subst (IsDistinct bytes_eq) (sym (map-map (λ (pin : Pin). pin.name.bytes) (moved_back first) left))
           (distinct-filter keeps pins are.distinct);
+      first = ap (λ n. least_place n (map (moved_back first) left)) (length-drop first kept)
+          ∙ least_back first (length kept) left ∙ none_over first (least_place (length kept) left) least;
       plain = are.plain;
     }
 
@@ -271,7 +341,7 @@ trees_of now kept [] are = tt
 trees_of now kept (pin ∷ pins) are = (are.0.has, trees_of now kept pins are.1)
 
 pub are_versions : (now : Contents) (kept : List ImageMap) (pins : List Pin) → ArePins now kept pins
-    → AreVersions (record { now = now; pins = map version_in pins })
+    → AreVersions (record { now = now; pins = map version_in pins; stored = kept })
 are_versions now kept pins are = record {
   few = omega (arith, length-map pins version_in, are.few);
   distinct = subst (IsDistinct bytes_eq)

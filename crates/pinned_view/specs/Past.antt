@@ -1,5 +1,5 @@
 -- Several images over one tree.
-use Rattle.std.specs.Prelude.{ℕ, ◌≡◌, Option, None, List, [], ◌∷◌}
+use Rattle.std.specs.Prelude.{ℕ, ◌≡◌, ◌≤◌, Option, None, List, [], ◌∷◌, length}
 use Rattle.std.specs.FinMap as map
 use Rattle.std.specs.Option.{option_or}
 use Rattle.cube_defs.specs.Tree.{Tree}
@@ -19,3 +19,8 @@ first_image (images ∷ later) q = option_or (map.get images q) (first_image lat
 abbrev pub StoresNoOthers : List ImageMap → ImageMap → List ImageMap → Type 0
 StoresNoOthers before images now =
     (q : ℕ) → first_image before q ≡ None → map.get images q ≡ None → first_image now q ≡ None
+
+-- a number that had an image in no list has none afterwards, and there are no more lists
+pub record StoresNoMore (before now : List ImageMap) : Type 0 where
+  pub images : (q : ℕ) → first_image before q ≡ None → first_image now q ≡ None
+  pub lists : length now ≤ length before

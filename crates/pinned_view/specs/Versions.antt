@@ -6,6 +6,7 @@ use Rattle.std.specs.Str.{bytes_eq}
 use Rattle.cube_defs.specs.Rows.{Row}
 use Rattle.cube_defs.specs.Text.{Text}
 use Rattle.cube_defs.specs.Tree.{Tree}
+use Rattle.qc_arena.specs.Map.{ImageMap}
 use Rattle.pinned_view.specs.declared.pins.TheConstants.{MAX_PINS}
 use Rattle.warehouse.specs.State.{Contents, HasTree, with_rows}
 
@@ -15,10 +16,11 @@ pub record Version : Type 0 where
   pub rows : List (Row Text)
   pub tree : Tree ℕ
 
--- a warehouse, and its versions that are pinned
+-- a warehouse, its versions that are pinned, and the lists of before-images that are kept for them, the oldest first
 pub record Versions : Type 0 where
   pub now : Contents
   pub pins : List Version
+  pub stored : List ImageMap
 
 -- what is true of a warehouse with versions: they have names of their own, and the tree of each is still the
 -- canonical tree of its rows
@@ -44,3 +46,7 @@ without versions name = filter (λ version. not (is_named name version)) version
 -- what is pinned under a name now
 abbrev pub version_now : Text → Contents → Version
 version_now name now = record { name = name; rows = now.state.rows; tree = now.tree }
+
+-- the same warehouse and the same versions, whatever lists are kept for them
+abbrev pub ShowsSame : Versions → Versions → Type 0
+ShowsSame before after = after ≡ record before { stored = after.stored }

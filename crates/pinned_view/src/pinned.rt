@@ -5,7 +5,9 @@ ghost use Rattle.cell_core.specs.Gives.{Gives};
 ghost use Rattle.csv_load.specs.Files.{batch_in};
 ghost use Rattle.qc_schema.specs.Grammar.{is_new_name};
 ghost use Rattle.pinned_view.specs.Refusals.{pin_refusal, widen_refusal_in};
-ghost use Rattle.pinned_view.specs.Versions.{AreVersions, Version, version_now, version_of, without};
+ghost use Rattle.pinned_view.specs.Past.{StoresNoMore};
+ghost use Rattle.pinned_view.specs.Stored.{HasFewLists, StoresNoOtherNodes};
+ghost use Rattle.pinned_view.specs.Versions.{AreVersions, ShowsSame, Version, version_now, version_of, without};
 ghost use Rattle.pinned_view.specs.Views.{IsViewOf};
 ghost use Rattle.warehouse.specs.Batch as batches;
 ghost use Rattle.warehouse.specs.InPlace.{IsWithinCost, LeavesOtherRecords, LeavesNumbers};
@@ -17,7 +19,7 @@ ghost use Rattle.warehouse.specs.Widening.{KeepsWidened, cost_of_widening, widen
 
 use crate::pins::{MAX_PINS, Pin, drop_named, oldest, pin_of, shift_places};
 use crate::refused::{NotPinned, PinRefused, PinnedWiden};
-use crate::stored_images::{drop_oldest, images_since, keep_images, reserve_one};
+use crate::stored_images::{drop_oldest, images_since, keep_images, reserve_one, settle};
 use crate::view::PinnedView;
 use cell_core::Steps;
 use cube_defs::{MAX_FILE, MAX_TEXT, Memory};
@@ -51,7 +53,12 @@ impl Model for Pinned {
 
     ghost coded = { Prim.hlevel (codes, tree_code, images_code) };
 
-    ghost view = { λ p. record { now = p.warehouse; pins = map version_in p.pins.items } };
+    ghost view = { λ p. record {
+      now = p.warehouse;
+      pins = map version_in p.pins.items;
+      stored
+          = p.kept.items;
+    } };
 
     ghost invariant = { λ p. ArePins p.warehouse p.kept.items p.pins.items
         × (MAX_PINS ≤ vec_capacity p.pins) };
@@ -63,6 +70,7 @@ impl Pinned {
         ensures { IfOk result (λ p. p ≡ record {
           now = record warehouse { images = finmap.empty };
           pins = [];
+          stored = [];
         }) }
     {
         let Ok(pins) = Vec::with_capacity(alloc, MAX_PINS) else {
@@ -120,6 +128,7 @@ impl Pinned {
         ensures some { IfSome result (λ view. (version : Version)
             × (version_of self.now.pins name.now ≡ Some version)
             × IsViewOf self.now.now.state version view) }
+        ensures lists { IfSome result (λ view. view.lists ≤ length self.now.stored) }
     {
         let pin = pin_of(&self.pins, name)?;
         let over = images_since(&self.kept, pin.from);
@@ -151,8 +160,11 @@ impl Pinned {
     /// Drops a version, and the before-images that only it needs. Takes no memory.
     pub fn unpin(&mut self, name: &str) -> Result<(), NotPinned>
         ensures found { OnOk result (IsSome (version_of self.old.pins name.now)) }
-        ensures ok { OnOk result
-            (self.new ≡ record self.old { pins = without self.old.pins name.now }) }
+        ensures ok { OnOk result (self.new ≡ record self.old {
+          pins = without self.old.pins name.now;
+          stored = self.new.stored;
+        }) }
+        ensures stored { StoresNoMore self.old.stored self.new.stored }
         ensures missing { OnErr result (version_of self.old.pins name.now ≡ None) }
         ensures err { OnErr result (self.new ≡ self.old) }
     {
@@ -166,8 +178,9 @@ impl Pinned {
         Ok(())
     }
 
-    /// Loads a base file, as `Warehouse::load` does. No version changes. If one is pinned, the
-    /// place for the before-images is reserved first.
+    /// Loads a base file, as `Warehouse::load` does. No version changes. If one is pinned, lists of
+    /// before-images between which no version reads are merged first, and the place for one more
+    /// is reserved. If that runs out of memory, the file is refused.
     pub fn load<L: Ledger>(
         &mut self,
         bytes: &[u8],
@@ -180,9 +193,11 @@ impl Pinned {
             (steps.new ≤ steps.old + cost_of_load self.new.now.state) }
         ensures valid { AreContents self.new.now }
         ensures pins { self.new.pins ≡ self.old.pins }
-        ensures err { OnErr result (self.new ≡ self.old) }
+        ensures lists { OnOk result (HasFewLists self.new) }
+        ensures err { OnErr result (ShowsSame self.old self.new) }
+        ensures none { OnErr result (StoresNoMore self.old.stored self.new.stored) }
     {
-        match reserve_one(&mut self.kept, &self.pins) {
+        match settle(&mut self.kept, &mut self.pins) {
             Ok(()) => {}
             Err(_) => {
                 self.warehouse.recall_invariant();
@@ -198,8 +213,9 @@ impl Pinned {
         }
     }
 
-    /// Applies a batch, as `Warehouse::apply` does. No version changes. If one is pinned, the place
-    /// for the before-images is reserved first.
+    /// Applies a batch, as `Warehouse::apply` does. No version changes. If one is pinned, lists of
+    /// before-images between which no version reads are merged first, and the place for one more
+    /// is reserved. If that runs out of memory, the batch is refused.
     pub fn apply<L: Ledger>(
         &mut self,
         bytes: &[u8],
@@ -212,13 +228,16 @@ impl Pinned {
         ensures apart { OnOk result (LeavesOtherRecords self.old.now bytes.now self.new.now) }
         ensures steps { OnOk result
             (IsWithinCost self.old.now.state bytes.now steps.old steps.new) }
+        ensures stored { OnOk result (StoresNoOtherNodes self.old bytes.now self.new) }
         ensures unread { IsErr (batch_in self.old.now.state.schema bytes.now)
             → steps.new ≡ steps.old }
         ensures valid { AreContents self.new.now }
         ensures pins { self.new.pins ≡ self.old.pins }
-        ensures err { OnErr result (self.new ≡ self.old) }
+        ensures lists { OnOk result (HasFewLists self.new) }
+        ensures err { OnErr result (ShowsSame self.old self.new) }
+        ensures none { OnErr result (StoresNoMore self.old.stored self.new.stored) }
     {
-        match reserve_one(&mut self.kept, &self.pins) {
+        match settle(&mut self.kept, &mut self.pins) {
             Ok(()) => {}
             Err(_) => {
                 self.warehouse.recall_invariant();

@@ -1,7 +1,7 @@
 // Pinned versions.
-ghost use Rattle.std.specs.Prelude.{filter, length, map, not, option_copied, vec_capacity, ◌==◌, ◌≡◌, ◌≤◌};
-ghost use Rattle.std.specs.List.{All, find, list_any};
-ghost use Rattle.pinned_view.specs.Pins.{has_name, moved_back, version_in};
+ghost use Rattle.std.specs.Prelude.{filter, length, map, not, option_copied, vec_capacity, ◌≡◌, ◌≤◌};
+ghost use Rattle.std.specs.List.{All, find};
+ghost use Rattle.pinned_view.specs.Pins.{has_name, least_place, moved_back, moved_over, place_without, reads_from, version_in};
 ghost use Rattle.pinned_view.specs.Versions.{version_now};
 ghost use Rattle.pinned_view.specs.Views.{IsRootOf};
 ghost use Rattle.warehouse.specs.Counted.{AreCounted};
@@ -68,13 +68,14 @@ pub(crate) fn drop_named(pins: &mut Vec<Pin>, name: &str)
 
 /// Whether a version reads from a place on.
 pub(crate) fn is_read_from(pins: &Vec<Pin>, place: usize) -> bool
-    ensures { result ≡ list_any (λ pin. pin.from == place) pins.now.items }
+    ensures { result ≡ reads_from pins.now.items place }
 {
     pins.iter().any(|pin| pin.from == place)
 }
 
 /// The least place from which a version reads, or the end if there is no version.
 pub(crate) fn oldest(pins: &Vec<Pin>, end: usize) -> usize
+    ensures least { result ≡ least_place end pins.now.items }
     ensures each { All (λ pin. result ≤ pin.from) pins.now.items }
     ensures end { result ≤ end }
 {
@@ -94,5 +95,23 @@ pub(crate) fn shift_places(pins: &mut Vec<Pin>, by: usize)
     'pins: for at in 0..pins.len() {
         let pin = &mut pins[at];
         pin.from -= by;
+    }
+}
+
+// The place of a list where the list at another place is merged into the one before that.
+fn place_after(gone: usize, place: usize) -> usize
+    ensures { result ≡ place_without gone place }
+{
+    if gone < place { place - 1 } else { place }
+}
+
+/// Moves the places of all versions that read from behind a place back by one.
+pub(crate) fn close_place(pins: &mut Vec<Pin>, gone: usize)
+    ensures items { pins.new.items ≡ map (moved_over gone) pins.old.items }
+    ensures capacity { vec_capacity pins.new ≡ vec_capacity pins.old }
+{
+    'pins: for at in 0..pins.len() {
+        let pin = &mut pins[at];
+        pin.from = place_after(gone, pin.from);
     }
 }

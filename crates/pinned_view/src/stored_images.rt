@@ -1,16 +1,13 @@
 // The before-images that are stored for the versions, the oldest first.
 ghost use Rattle.std.specs.FinMap as finmap;
-ghost use Rattle.std.specs.List.{list_any};
-ghost use Rattle.std.specs.Prelude.{IfErr, None, OnErr, OnOk, drop, false, length, true, vec_capacity, ℕ, ◌<◌, ◌==◌, ◌≡◌, ◌≤◌};
-ghost use Rattle.cube_defs.specs.Tree.{Tree};
-ghost use Rattle.qc_arena.specs.Map.{overlaid};
-ghost use Rattle.pinned_view.specs.Past.{StoresNoOthers, first_image, with_all_images};
-ghost use Rattle.pinned_view.specs.Pins.{AreBefore, AreWithin, ReadSame};
+ghost use Rattle.std.specs.Prelude.{OnErr, OnOk, drop, false, length, suc, true, vec_capacity, ◌<◌, ◌≡◌, ◌≤◌};
+ghost use Rattle.pinned_view.specs.Pins.{AreSettledFrom, IsMergedAt, IsSettledAt, KeepsReads, kept_after, reads_from};
 ghost use Rattle.warehouse.specs.State.{AreContents};
 
-use crate::pins::{Pin, is_read_from};
+use crate::pins::{Pin, close_place, is_read_from};
 use cube_defs::Memory;
 use qc_arena::Images;
+use std::alloc::AllocError;
 use warehouse::Warehouse;
 
 /// The before-images from a place on.
@@ -43,73 +40,91 @@ pub(crate) fn reserve_one(kept: &mut Vec<Images>, pins: &Vec<Pin>) -> Result<(),
     kept.reserve(1)
 }
 
-// Whether the last entry of the list may be merged into the one before it. It may if no version
-// reads from between them, and if the one before isn't much larger. So each number is moved a few
-// times, and the list stays short.
-fn may_merge(kept: &Vec<Images>, pins: &Vec<Pin>, last: &Images) -> bool
-    ensures some { result ≡ true → 0 < length kept.now.items }
-    ensures between { result ≡ true
-        → list_any (λ pin. pin.from == length kept.now.items) pins.now.items ≡ false }
+// Whether the images after a place may be merged into those at it. They may if no version reads
+// from between them, and if those at it aren't much larger. So each number is moved a few times,
+// and the lists stay few.
+fn may_merge(kept: &Vec<Images>, pins: &Vec<Pin>, at: usize) -> bool
+    requires { suc at < length kept.now.items }
+    ensures apart { result ≡ true → reads_from pins.now.items (suc at) ≡ false }
+    ensures settled { result ≡ false → IsSettledAt at (drop at kept.now.items) pins.now.items }
 {
-    match kept.last() {
-        Some(before) => before.count() / 2 <= last.count() && !is_read_from(pins, kept.len()),
-        None => false,
+    if is_read_from(pins, at + 1) {
+        return false;
     }
+    let older = &kept[at];
+    let later = &kept[at + 1];
+    older.count() / 2 <= later.count()
 }
 
-// Merges later before-images into the last ones of the list. Returns the later ones if out of
-// memory.
-fn merge_into_last(kept: &mut Vec<Images>, later: Images) -> Result<(), Images>
-    requires { 0 < length kept.old.items }
-    ensures ok { OnOk result ((place : ℕ) (tree : Tree ℕ) → place < length kept.old.items →
-        with_all_images (drop place kept.new.items) tree ≡ with_all_images
-        (drop place kept.old.items) (overlaid later tree)) }
-    ensures only { OnOk result (StoresNoOthers kept.old.items later kept.new.items) }
+// Merges the images after a place into those at it. If memory runs out, nothing changes.
+fn merge_next(kept: &mut Vec<Images>, at: usize) -> Result<(), Memory>
+    requires { suc at < length kept.old.items }
+    ensures ok { OnOk result (IsMergedAt at kept.old.items kept.new.items) }
     ensures err { OnErr result (kept.new.items ≡ kept.old.items) }
-    ensures back { IfErr result (λ back. back ≡ later) }
-    ensures len { length kept.new.items ≡ length kept.old.items }
-    ensures capacity { vec_capacity kept.new ≡ vec_capacity kept.old }
 {
-    let at = kept.len() - 1;
-    let last = &mut kept[at];
-    last.merge_later(later)
-}
-
-// Merges the last before-images with those before them, if it may, and says whether it did.
-fn merge_last_two(kept: &mut Vec<Images>, pins: &Vec<Pin>) -> bool
-    requires { AreBefore (length kept.old.items) pins.now.items }
-    ensures shorter { result ≡ true → length kept.new.items < length kept.old.items }
-    ensures before { AreBefore (length kept.new.items) pins.now.items }
-    ensures same { (tree : Tree ℕ)
-        → ReadSame kept.old.items tree kept.new.items tree pins.now.items }
-    ensures only { (q : ℕ) → first_image kept.old.items q ≡ None
-        → first_image kept.new.items q ≡ None }
-{
-    let Some(last) = kept.pop() else {
-        return false;
-    };
-    if !may_merge(kept, pins, &last) {
-        kept.push(last).unwrap();
-        return false;
-    }
-    match merge_into_last(kept, last) {
-        Ok(()) => true,
-        Err(last) => {
-            kept.push(last).unwrap();
-            false
+    let later = kept.remove(at + 1);
+    let older = &mut kept[at];
+    match older.merge_later(later) {
+        Ok(()) => Ok(()),
+        Err(later) => {
+            kept.insert(at + 1, later).unwrap();
+            Err(AllocError)
         }
     }
 }
 
-/// Moves the before-images of a warehouse's last change to the end of the list, if a version needs
-/// them. Else they are dropped. No other number gets an image in the list.
+// Settles a place: merges the images after it into those at it, if they may be merged.
+fn settle_at(kept: &mut Vec<Images>, pins: &mut Vec<Pin>, at: usize) -> Result<(), Memory>
+    requires { suc at < length kept.old.items }
+    ensures keeps { KeepsReads kept.old.items pins.old.items kept.new.items pins.new.items }
+    ensures len { at < length kept.new.items }
+    ensures settled { OnOk result
+        (AreSettledFrom (suc at) (drop (suc at) kept.old.items) pins.old.items
+        → AreSettledFrom at (drop at kept.new.items) pins.new.items) }
+    ensures capacity { vec_capacity pins.new ≡ vec_capacity pins.old }
+{
+    if !may_merge(kept, pins, at) {
+        return Ok(());
+    }
+    merge_next(kept, at)?;
+    close_place(pins, at + 1);
+    Ok(())
+}
+
+// Settles all places, from the last to the first.
+fn settle_all(kept: &mut Vec<Images>, pins: &mut Vec<Pin>) -> Result<(), Memory>
+    ensures keeps { KeepsReads kept.old.items pins.old.items kept.new.items pins.new.items }
+    ensures settled { OnOk result (AreSettledFrom 0 kept.new.items pins.new.items) }
+    ensures capacity { vec_capacity pins.new ≡ vec_capacity pins.old }
+{
+    let mut at = kept.len().saturating_sub(1);
+    'places: while at > 0 {
+        at -= 1;
+        settle_at(kept, pins, at)?;
+    }
+    Ok(())
+}
+
+/// Merges neighbouring lists between which no version reads, unless the earlier one is much larger.
+/// Then reserves the place for the before-images of one more change, if a version is pinned. If
+/// memory runs out, each version reads what it read.
+pub(crate) fn settle(kept: &mut Vec<Images>, pins: &mut Vec<Pin>) -> Result<(), Memory>
+    ensures keeps { KeepsReads kept.old.items pins.old.items kept.new.items pins.new.items }
+    ensures settled { OnOk result (AreSettledFrom 0 kept.new.items pins.new.items) }
+    ensures room { OnOk result (0 < length pins.new.items
+        → length kept.new.items < vec_capacity kept.new) }
+    ensures capacity { vec_capacity pins.new ≡ vec_capacity pins.old }
+{
+    settle_all(kept, pins)?;
+    reserve_one(kept, pins)
+}
+
+/// Moves the before-images of a warehouse's last change to the end of the lists, if a version needs
+/// them. Else they are dropped.
 pub(crate) fn keep_images(kept: &mut Vec<Images>, pins: &Vec<Pin>, warehouse: &mut Warehouse)
-    requires room { 0 < length pins.now.items → length kept.old.items < vec_capacity kept.old }
-    requires within { AreWithin (length kept.old.items) pins.now.items }
-    ensures within { AreWithin (length kept.new.items) pins.now.items }
-    ensures same { (tree : Tree ℕ) → ReadSame kept.old.items
-        (overlaid warehouse.old.images tree) kept.new.items tree pins.now.items }
-    ensures only { StoresNoOthers kept.old.items warehouse.old.images kept.new.items }
+    requires { 0 < length pins.now.items → length kept.old.items < vec_capacity kept.old }
+    ensures kept { kept.new.items
+        ≡ kept_after pins.now.items kept.old.items warehouse.old.images }
     ensures rest { warehouse.new ≡ record warehouse.old { images = finmap.empty } }
     ensures valid { AreContents warehouse.new }
 {
@@ -117,19 +132,6 @@ pub(crate) fn keep_images(kept: &mut Vec<Images>, pins: &Vec<Pin>, warehouse: &m
         warehouse.drop_images();
     } else {
         let images = warehouse.last_images();
-        store_images(kept, pins, images);
+        kept.push(images).unwrap();
     }
-}
-
-/// Stores the before-images of a change.
-fn store_images(kept: &mut Vec<Images>, pins: &Vec<Pin>, images: Images)
-    requires room { length kept.old.items < vec_capacity kept.old }
-    requires within { AreWithin (length kept.old.items) pins.now.items }
-    ensures within { AreWithin (length kept.new.items) pins.now.items }
-    ensures same { (tree : Tree ℕ)
-        → ReadSame kept.old.items (overlaid images tree) kept.new.items tree pins.now.items }
-    ensures only { StoresNoOthers kept.old.items images kept.new.items }
-{
-    kept.push(images).unwrap();
-    'joins: while merge_last_two(kept, pins) {}
 }

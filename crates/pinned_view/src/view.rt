@@ -1,15 +1,15 @@
 // The tree of a version, read over the present tree.
 ghost use Rattle.std.specs.FinMap as map;
-ghost use Rattle.std.specs.Prelude.{IfNone, IfSome, IsSome, Some, ◌≡◌};
+ghost use Rattle.std.specs.Prelude.{IfNone, IfSome, IsSome, Some, length, ◌+◌, ◌<◌, ◌≡◌, ◌≤◌};
 ghost use Rattle.qc_arena.specs.Looks.{look_of_image};
 ghost use Rattle.pinned_view.specs.Past.{first_image, with_all_images};
-ghost use Rattle.pinned_view.specs.Views.{IsRootOf};
+ghost use Rattle.pinned_view.specs.Views.{IsRootOf, SaysOf};
 
 use aggregates::Agg;
 use cell_core::{Code, NodeNo, Steps};
 use qc_arena::{Forced, Images, Look, Nodes, QcArena, Record};
-use std::marker::Model;
-use std::sync::ledger::Ledger;
+use std::marker::{Brand, Model};
+use std::sync::ledger::{Blank, Ledger};
 use warehouse::Stats;
 
 /// The tree of a pinned version, and its counts. It is the present tree under the before-images
@@ -25,6 +25,7 @@ pub struct PinnedView<'a> {
 
 impl<'a> Model for PinnedView<'a> {
     ghost use Rattle.std.specs.Coded.{codes};
+    ghost use Rattle.std.specs.Prelude.{length};
     ghost use Rattle.qc_arena.specs.Codes.{tree_code};
     ghost use Rattle.pinned_view.specs.Past.{with_all_images};
     ghost use Rattle.pinned_view.specs.Views.{CountedTree, IsRootOf};
@@ -38,6 +39,7 @@ impl<'a> Model for PinnedView<'a> {
       tree
           = with_all_images v.over.now v.tree.now.now;
       stats = v.stats;
+      lists = length v.over.now;
     } };
 
     ghost invariant = { λ v. IsRootOf v.tree.now.width
@@ -56,6 +58,7 @@ impl<'a> PinnedView<'a> {
         ensures tree { result.tree ≡ with_all_images over.now tree.now.now }
         ensures width { result.width ≡ tree.now.width }
         ensures stats { result.stats ≡ stats }
+        ensures lists { result.lists ≡ length over.now }
     {
         PinnedView {
             tree,
@@ -71,19 +74,49 @@ impl<'a> PinnedView<'a> {
     {
         self.stats
     }
+
+    /// What the first of the lists of before-images that has the number says of it. Each list that
+    /// is looked at is a step. Each takes two binary searches.
+    pub fn look<L: Ledger>(&self, node: NodeNo, looks: &mut Steps<L>) -> Look<'a>
+        ensures says { SaysOf self.now.tree node.0 result }
+        ensures looks { looks.new ≤ looks.old + self.now.lists }
+    {
+        look_in(self.over, node, looks)
+    }
 }
 
-// What the first before-images that have the number say of it.
-fn look_in<'a>(over: &'a [Images], node: NodeNo) -> Look<'a>
-    ensures { look_of_image result ≡ first_image over.now node.0 }
+// What the first before-images that have the number say of it. Each list that is looked at is a
+// step.
+fn look_in<'a, L: Ledger>(over: &'a [Images], node: NodeNo, looks: &mut Steps<L>) -> Look<'a>
+    ensures value { look_of_image result ≡ first_image over.now node.0 }
+    ensures looks { looks.new ≤ looks.old + length over.now }
 {
     'images: for images in over {
+        looks.tick();
         match images.look(node) {
             Look::Same => {}
             look => return look,
         }
     }
     Look::Same
+}
+
+// The same, with a count that the blank begins.
+fn look_from<'a, L: Ledger>(over: &'a [Images], node: NodeNo, blank: Blank) -> Look<'a>
+    requires name { blank.name ≡ L.name }
+    requires parts { blank.parts ≡ L.parts }
+    requires some { 0 < L.parts }
+    ensures { look_of_image result ≡ first_image over.now node.0 }
+{
+    let mut looks = Steps::<L>::start(blank);
+    look_in(over, node, &mut looks)
+}
+
+// The same, with a count of its own, which takes neither memory nor time.
+fn first_look<'a>(over: &'a [Images], node: NodeNo) -> Look<'a>
+    ensures { look_of_image result ≡ first_image over.now node.0 }
+{
+    look_from::<Brand>(over, node, Blank::new(1))
 }
 
 // The record that a node had, if it isn't the present one.
@@ -94,7 +127,7 @@ fn image_of<'a>(tree: &QcArena, over: &'a [Images], node: NodeNo) -> Option<&'a 
     ensures none { IfNone result (map.get (with_all_images over.now tree.now.now) node.0
         ≡ map.get tree.now.now node.0) }
 {
-    match look_in(over, node) {
+    match first_look(over, node) {
         Look::Same => None,
         Look::Was(record) => Some(record),
         Look::Gone => unreachable!(),

@@ -1,4 +1,4 @@
-use Rattle.std.proofs.Common.{Err, Ok, ap, length, map, refl, subst, sym, ◌∙◌, ◌≡◌}
+use Rattle.std.proofs.Common.{Err, Ok, ap, arith, map, refl, subst, sym, ◌∙◌, ◌≡◌}
 use Rattle.std.specs.Prelude.{IfSome, IsErr}
 use Rattle.csv_load.specs.Files.{batch_in}
 use Rattle.warehouse.proofs.CallerLemmas.{taken-of, tree-after}
@@ -6,16 +6,38 @@ use Rattle.warehouse.specs.Batch.{Apply, result}
 use Rattle.warehouse.specs.InPlace.{IsWithinCost, LeavesOtherRecords, LeavesNumbers}
 use Rattle.warehouse.specs.State.{Contents, State}
 use Rattle.warehouse.specs.Stored.{applied_in, refusal_in}
-use Rattle.pinned_view.specs.Pins.{AreWithin, version_in}
+use Rattle.pinned_view.specs.Pins.{ArePins, version_in}
+use Rattle.pinned_view.specs.Stored.{StoresNoOtherNodes}
 use Rattle.pinned_view.specs.Versions.{Versions}
-use Rattle.pinned_view.proofs.Staying.{after_change, within_all}
+use Rattle.pinned_view.proofs.Staying.{after_change, pins_settled, versions_moved}
+use Rattle.pinned_view.proofs.StoredFor.{few_lists, shows_same, stores_touched}
+use Rattle.pinned_view.proofs.pinned.Pinned.apply.Given as Given
 use Rattle.pinned_view.proofs.pinned.Pinned.apply.Goals as goal
 
-pub keep_images-requires-clause-within : goal.keep_images-requires-clause-within
-keep_images-requires-clause-within g c =
-    let m = c.self.inside in
-    subst (λ n. AreWithin n m.pins.items) (sym (ap length c.in-Ok.ensures.items))
-    (within_all m.warehouse m.kept.items m.pins.items c.self.invariant.0.each)
+pub invariant_of-self : goal.invariant_of-self
+invariant_of-self g c =
+    let m = c.self.inside in (
+      pins_settled m.warehouse m.kept.items c.settle.new.kept.items m.pins.items c.settle.new.pins.items
+          c.settle.ensures.keeps c.self.invariant.0,
+      omega (arith, c.settle.ensures.capacity, c.self.invariant.1),
+    )
+
+-- the images are none before and after a file that is refused
+same_held : (g : Given.Over) (c : goal.In-Err-apply g) → c.apply.new.self ≡ c.self.inside.warehouse
+same_held g c =
+    let said = c.in-Err-apply.ensures in
+    let images = said.no_images ∙ sym c.self.invariant.0.plain in
+    λ j. let held : Contents
+    = record { state = said.state j; tree = said.tree j; index = said.index j; images = images j } in held
+
+pub invariant_of-self-in-Err-apply : goal.invariant_of-self-in-Err-apply
+invariant_of-self-in-Err-apply g c =
+    let m = c.self.inside in (
+      subst (λ (n : Contents). ArePins n c.settle.new.kept.items c.settle.new.pins.items) (sym (same_held g c))
+          (pins_settled m.warehouse m.kept.items c.settle.new.kept.items m.pins.items c.settle.new.pins.items
+          c.settle.ensures.keeps c.self.invariant.0),
+      omega (arith, c.settle.ensures.capacity, c.self.invariant.1),
+    )
 
 pub invariant_of-self-in-Ok-apply : goal.invariant_of-self-in-Ok-apply
 invariant_of-self-in-Ok-apply g c =
@@ -24,14 +46,15 @@ invariant_of-self-in-Ok-apply g c =
     let now = c.apply.new.self.state in
     let file = c.args.bytes.now in
     let applied = applied_in now c.in-Ok-apply.applied in (
-      after_change m.warehouse c.apply.new.self c.keep_images.new.warehouse m.kept.items c.reserve_one.new.kept.items
-          c.keep_images.new.kept.items c.apply.new.self.images m.pins.items
-          c.in-Ok.ensures.items c.apply.ensures.images refl c.keep_images.ensures.rest
-          c.keep_images.ensures.same c.keep_images.ensures.within
+      after_change m.warehouse c.apply.new.self c.keep_images.new.warehouse c.settle.new.kept.items
+          c.keep_images.new.kept.items c.settle.new.pins.items c.apply.ensures.images c.keep_images.ensures.rest
+          c.keep_images.ensures.kept
           (ap (λ (s : State). s.schema) (taken-of was Apply file applied c.in-Ok-apply.ensures.gives).1)
           (λ rows tree has. tree-after was now rows tree Apply file applied has c.in-Ok-apply.ensures.gives refl
-          c.apply.ensures.valid.state) c.self.invariant.0,
-      c.self.invariant.1,
+          c.apply.ensures.valid.state)
+          (pins_settled m.warehouse m.kept.items c.settle.new.kept.items m.pins.items c.settle.new.pins.items
+          c.in-Ok.ensures.keeps c.self.invariant.0),
+      omega (arith, c.settle.ensures.capacity, c.self.invariant.1),
     )
 
 -- the images apart, the warehouse is what the file left
@@ -49,10 +72,15 @@ returns-in-Ok-apply-clause-apart g c =
     (sym c.keep_images.ensures.rest) c.in-Ok-apply.ensures.apart)
 
 pub returns-in-Err-clause-pins : goal.returns-in-Err-clause-pins
-returns-in-Err-clause-pins g c = ap (λ (v : Versions). v.pins) c.self.view_is
+returns-in-Err-clause-pins g c =
+    versions_moved c.self.inside.pins.items c.settle.new.pins.items c.settle.ensures.keeps.pins
+    ∙ ap (λ (v : Versions). v.pins) c.self.view_is
 
 pub returns-in-Err-clause-err : goal.returns-in-Err-clause-err
-returns-in-Err-clause-err g c = c.self.view_is
+returns-in-Err-clause-err g c =
+    let m = c.self.inside in
+    shows_same m.warehouse m.warehouse m.kept.items c.settle.new.kept.items m.pins.items c.settle.new.pins.items
+    c.args.self.now refl (versions_moved m.pins.items c.settle.new.pins.items c.settle.ensures.keeps.pins) c.self.view_is
 
 pub returns-in-Err-apply-clause-gives : goal.returns-in-Err-apply-clause-gives
 returns-in-Err-apply-clause-gives g c =
@@ -61,19 +89,21 @@ returns-in-Err-apply-clause-gives g c =
     c.in-Err-apply.ensures.gives
 
 pub returns-in-Err-apply-clause-pins : goal.returns-in-Err-apply-clause-pins
-returns-in-Err-apply-clause-pins g c = ap (λ (v : Versions). v.pins) c.self.view_is
+returns-in-Err-apply-clause-pins g c =
+    versions_moved c.self.inside.pins.items c.settle.new.pins.items c.settle.ensures.keeps.pins
+    ∙ ap (λ (v : Versions). v.pins) c.self.view_is
 
 pub returns-in-Err-apply-clause-err : goal.returns-in-Err-apply-clause-err
 returns-in-Err-apply-clause-err g c =
-    let said = c.in-Err-apply.ensures in
-    let images = said.no_images ∙ sym c.self.invariant.0.plain in
-    let same : c.apply.new.self ≡ c.self.inside.warehouse = λ j. let held : Contents
-    = record { state = said.state j; tree = said.tree j; index = said.index j; images = images j } in held in
-    ap (λ (held : Contents). let v : Versions = record { now = held; pins = map version_in c.self.inside.pins.items } in
-    v) same ∙ c.self.view_is
+    let m = c.self.inside in
+    shows_same m.warehouse c.apply.new.self m.kept.items c.settle.new.kept.items m.pins.items c.settle.new.pins.items
+    c.args.self.now (same_held g c) (versions_moved m.pins.items c.settle.new.pins.items c.settle.ensures.keeps.pins)
+    c.self.view_is
 
 pub returns-in-Ok-apply-clause-pins : goal.returns-in-Ok-apply-clause-pins
-returns-in-Ok-apply-clause-pins g c = ap (λ (v : Versions). v.pins) c.self.view_is
+returns-in-Ok-apply-clause-pins g c =
+    versions_moved c.self.inside.pins.items c.settle.new.pins.items c.settle.ensures.keeps.pins
+    ∙ ap (λ (v : Versions). v.pins) c.self.view_is
 
 pub returns-in-Ok-apply-clause-valid : goal.returns-in-Ok-apply-clause-valid
 returns-in-Ok-apply-clause-valid g c = c.keep_images.ensures.valid
@@ -102,3 +132,23 @@ pub returns-in-Err-apply-clause-unread : goal.returns-in-Err-apply-clause-unread
 returns-in-Err-apply-clause-unread g c
     = subst (λ (v : Versions). IsErr (batch_in v.now.state.schema c.args.bytes.now)
     → c.apply.new.steps ≡ c.args.steps.now) c.self.view_is c.apply.ensures.unread
+
+pub returns-in-Ok-apply-clause-lists : goal.returns-in-Ok-apply-clause-lists
+returns-in-Ok-apply-clause-lists g c =
+    let m = c.self.inside in
+    let are = pins_settled m.warehouse m.kept.items c.settle.new.kept.items m.pins.items c.settle.new.pins.items
+    c.settle.ensures.keeps c.self.invariant.0 in
+    few_lists c.keep_images.new.warehouse c.settle.new.kept.items c.keep_images.new.kept.items c.settle.new.pins.items
+    c.apply.new.self.images c.keep_images.ensures.kept c.in-Ok.ensures.settled are.first
+
+pub returns-in-Ok-apply-clause-stored : goal.returns-in-Ok-apply-clause-stored
+returns-in-Ok-apply-clause-stored g c =
+    let m = c.self.inside in
+    subst (λ (v : Versions). StoresNoOtherNodes v c.args.bytes.now (record {
+      now = c.keep_images.new.warehouse;
+      pins = map version_in c.settle.new.pins.items;
+      stored = c.keep_images.new.kept.items;
+    })) c.self.view_is
+    (stores_touched m.warehouse c.apply.new.self c.keep_images.new.warehouse (map version_in m.pins.items) m.kept.items
+    c.settle.new.kept.items c.keep_images.new.kept.items c.settle.new.pins.items c.args.bytes.now
+    c.settle.ensures.keeps.stores c.keep_images.ensures.kept c.keep_images.ensures.rest c.in-Ok-apply.ensures.touches)

@@ -1,7 +1,8 @@
-use Rattle.std.proofs.Common.{OnOk, ap, map, subst, sym, ◌∙◌, ◌≡◌}
+use Rattle.std.proofs.Common.{List, OnOk, ap, ap₂, map, subst, sym, ◌∙◌, ◌≡◌}
 use Rattle.std.specs.Prelude.{IsErr}
 use Rattle.cell_core.specs.Gives.{Gives}
 use Rattle.csv_load.specs.Files.{batch_in}
+use Rattle.qc_arena.specs.Map.{ImageMap}
 use Rattle.warehouse.specs.Batch.{Apply, result}
 use Rattle.warehouse.specs.InPlace.{IsWithinCost}
 use Rattle.warehouse.specs.State.{Contents, State}
@@ -14,7 +15,11 @@ pub returns-in-Err-clause-gives : goal.returns-in-Err-clause-gives
 returns-in-Err-clause-gives g c = (c.args.self.now.now.state, tt)
 
 pub returns-in-Err-clause-same : goal.returns-in-Err-clause-same
-returns-in-Err-clause-same g c = c.self.view_is
+returns-in-Err-clause-same g c =
+    let m = c.self.inside in
+    ap (λ (kept : List ImageMap). let v : Versions
+    = record { now = m.warehouse; pins = map version_in m.pins.items; stored = kept } in v) c.in-Err.ensures.items
+    ∙ c.self.view_is
 
 pub returns-clause-gives : goal.returns-clause-gives
 returns-clause-gives g c =
@@ -40,8 +45,9 @@ returns-clause-same g c =
       images
           = (sym plain) j;
     } in held) in
-    ap (λ (held : Contents). let v : Versions = record { now = held; pins = map version_in c.self.inside.pins.items } in
-    v) same ∙ c.self.view_is
+    ap₂ (λ (held : Contents) (kept : List ImageMap). let v : Versions
+    = record { now = held; pins = map version_in c.self.inside.pins.items; stored = kept } in v) same
+    c.in-Ok.ensures.items ∙ c.self.view_is
 
 pub returns-clause-unread : goal.returns-clause-unread
 returns-clause-unread g c

@@ -1,20 +1,41 @@
-use Rattle.std.proofs.Common.{Err, Ok, ap, length, map, refl, subst, sym, ◌∙◌, ◌≡◌, ◌≤◌, ◌+◌}
+use Rattle.std.proofs.Common.{Err, Ok, ap, arith, refl, subst, sym, ◌∙◌, ◌≡◌, ◌≤◌, ◌+◌}
 use Rattle.std.specs.Prelude.{IfSome}
 use Rattle.warehouse.proofs.CallerLemmas.{taken-of, tree-after}
 use Rattle.warehouse.specs.Batch.{Load, result}
 use Rattle.warehouse.specs.Loading.{cost_of_load}
 use Rattle.warehouse.specs.State.{Contents, State}
 use Rattle.warehouse.specs.Stored.{applied_in, refusal_in}
-use Rattle.pinned_view.specs.Pins.{AreWithin, version_in}
+use Rattle.pinned_view.specs.Pins.{ArePins}
 use Rattle.pinned_view.specs.Versions.{Versions}
-use Rattle.pinned_view.proofs.Staying.{after_change, within_all}
+use Rattle.pinned_view.proofs.Staying.{after_change, pins_settled, versions_moved}
+use Rattle.pinned_view.proofs.StoredFor.{few_lists, shows_same}
+use Rattle.pinned_view.proofs.pinned.Pinned.load.Given as Given
 use Rattle.pinned_view.proofs.pinned.Pinned.load.Goals as goal
 
-pub keep_images-requires-clause-within : goal.keep_images-requires-clause-within
-keep_images-requires-clause-within g c =
-    let m = c.self.inside in
-    subst (λ n. AreWithin n m.pins.items) (sym (ap length c.in-Ok.ensures.items))
-    (within_all m.warehouse m.kept.items m.pins.items c.self.invariant.0.each)
+pub invariant_of-self : goal.invariant_of-self
+invariant_of-self g c =
+    let m = c.self.inside in (
+      pins_settled m.warehouse m.kept.items c.settle.new.kept.items m.pins.items c.settle.new.pins.items
+          c.settle.ensures.keeps c.self.invariant.0,
+      omega (arith, c.settle.ensures.capacity, c.self.invariant.1),
+    )
+
+-- the images are none before and after a file that is refused
+same_held : (g : Given.Over) (c : goal.In-Err-load g) → c.load.new.self ≡ c.self.inside.warehouse
+same_held g c =
+    let said = c.in-Err-load.ensures in
+    let images = said.no_images ∙ sym c.self.invariant.0.plain in
+    λ j. let held : Contents
+    = record { state = said.state j; tree = said.tree j; index = said.index j; images = images j } in held
+
+pub invariant_of-self-in-Err-load : goal.invariant_of-self-in-Err-load
+invariant_of-self-in-Err-load g c =
+    let m = c.self.inside in (
+      subst (λ (n : Contents). ArePins n c.settle.new.kept.items c.settle.new.pins.items) (sym (same_held g c))
+          (pins_settled m.warehouse m.kept.items c.settle.new.kept.items m.pins.items c.settle.new.pins.items
+          c.settle.ensures.keeps c.self.invariant.0),
+      omega (arith, c.settle.ensures.capacity, c.self.invariant.1),
+    )
 
 pub invariant_of-self-in-Ok-load : goal.invariant_of-self-in-Ok-load
 invariant_of-self-in-Ok-load g c =
@@ -23,21 +44,27 @@ invariant_of-self-in-Ok-load g c =
     let now = c.load.new.self.state in
     let file = c.args.bytes.now in
     let applied = applied_in now c.in-Ok-load.applied in (
-      after_change m.warehouse c.load.new.self c.keep_images.new.warehouse m.kept.items c.reserve_one.new.kept.items
-          c.keep_images.new.kept.items c.load.new.self.images m.pins.items
-          c.in-Ok.ensures.items c.load.ensures.images refl c.keep_images.ensures.rest
-          c.keep_images.ensures.same c.keep_images.ensures.within
+      after_change m.warehouse c.load.new.self c.keep_images.new.warehouse c.settle.new.kept.items
+          c.keep_images.new.kept.items c.settle.new.pins.items c.load.ensures.images c.keep_images.ensures.rest
+          c.keep_images.ensures.kept
           (ap (λ (s : State). s.schema) (taken-of was Load file applied c.in-Ok-load.ensures.gives).1)
           (λ rows tree has. tree-after was now rows tree Load file applied has c.in-Ok-load.ensures.gives refl
-          c.load.ensures.valid.state) c.self.invariant.0,
-      c.self.invariant.1,
+          c.load.ensures.valid.state)
+          (pins_settled m.warehouse m.kept.items c.settle.new.kept.items m.pins.items c.settle.new.pins.items
+          c.in-Ok.ensures.keeps c.self.invariant.0),
+      omega (arith, c.settle.ensures.capacity, c.self.invariant.1),
     )
 
 pub returns-in-Err-clause-pins : goal.returns-in-Err-clause-pins
-returns-in-Err-clause-pins g c = ap (λ (v : Versions). v.pins) c.self.view_is
+returns-in-Err-clause-pins g c =
+    versions_moved c.self.inside.pins.items c.settle.new.pins.items c.settle.ensures.keeps.pins
+    ∙ ap (λ (v : Versions). v.pins) c.self.view_is
 
 pub returns-in-Err-clause-err : goal.returns-in-Err-clause-err
-returns-in-Err-clause-err g c = c.self.view_is
+returns-in-Err-clause-err g c =
+    let m = c.self.inside in
+    shows_same m.warehouse m.warehouse m.kept.items c.settle.new.kept.items m.pins.items c.settle.new.pins.items
+    c.args.self.now refl (versions_moved m.pins.items c.settle.new.pins.items c.settle.ensures.keeps.pins) c.self.view_is
 
 pub returns-in-Err-load-clause-gives : goal.returns-in-Err-load-clause-gives
 returns-in-Err-load-clause-gives g c =
@@ -45,19 +72,21 @@ returns-in-Err-load-clause-gives g c =
     (λ refusal. result v.now.state Load c.args.bytes.now ≡ Err refusal)) c.self.view_is c.in-Err-load.ensures.gives
 
 pub returns-in-Err-load-clause-pins : goal.returns-in-Err-load-clause-pins
-returns-in-Err-load-clause-pins g c = ap (λ (v : Versions). v.pins) c.self.view_is
+returns-in-Err-load-clause-pins g c =
+    versions_moved c.self.inside.pins.items c.settle.new.pins.items c.settle.ensures.keeps.pins
+    ∙ ap (λ (v : Versions). v.pins) c.self.view_is
 
 pub returns-in-Err-load-clause-err : goal.returns-in-Err-load-clause-err
 returns-in-Err-load-clause-err g c =
-    let said = c.in-Err-load.ensures in
-    let images = said.no_images ∙ sym c.self.invariant.0.plain in
-    let same : c.load.new.self ≡ c.self.inside.warehouse = λ j. let held : Contents
-    = record { state = said.state j; tree = said.tree j; index = said.index j; images = images j } in held in
-    ap (λ (held : Contents). let v : Versions = record { now = held; pins = map version_in c.self.inside.pins.items } in
-    v) same ∙ c.self.view_is
+    let m = c.self.inside in
+    shows_same m.warehouse c.load.new.self m.kept.items c.settle.new.kept.items m.pins.items c.settle.new.pins.items
+    c.args.self.now (same_held g c) (versions_moved m.pins.items c.settle.new.pins.items c.settle.ensures.keeps.pins)
+    c.self.view_is
 
 pub returns-in-Ok-load-clause-pins : goal.returns-in-Ok-load-clause-pins
-returns-in-Ok-load-clause-pins g c = ap (λ (v : Versions). v.pins) c.self.view_is
+returns-in-Ok-load-clause-pins g c =
+    versions_moved c.self.inside.pins.items c.settle.new.pins.items c.settle.ensures.keeps.pins
+    ∙ ap (λ (v : Versions). v.pins) c.self.view_is
 
 pub returns-in-Ok-load-clause-valid : goal.returns-in-Ok-load-clause-valid
 returns-in-Ok-load-clause-valid g c = c.keep_images.ensures.valid
@@ -76,3 +105,11 @@ pub returns-in-Ok-load-clause-steps : goal.returns-in-Ok-load-clause-steps
 returns-in-Ok-load-clause-steps g c =
     subst (λ (now : Contents). c.load.new.steps ≤ c.args.steps.now + cost_of_load now.state)
     (sym c.keep_images.ensures.rest) c.in-Ok-load.ensures.steps
+
+pub returns-in-Ok-load-clause-lists : goal.returns-in-Ok-load-clause-lists
+returns-in-Ok-load-clause-lists g c =
+    let m = c.self.inside in
+    let are = pins_settled m.warehouse m.kept.items c.settle.new.kept.items m.pins.items c.settle.new.pins.items
+    c.settle.ensures.keeps c.self.invariant.0 in
+    few_lists c.keep_images.new.warehouse c.settle.new.kept.items c.keep_images.new.kept.items c.settle.new.pins.items
+    c.load.new.self.images c.keep_images.ensures.kept c.in-Ok.ensures.settled are.first

@@ -43,6 +43,7 @@ invariant_of-self c =
     c.of-pin.ensures.valid in (
       subst (ArePins m.warehouse m.kept.items) (sym pushed)
           (one_more m.warehouse m.kept.items m.pins.items pin new
-          (omega (arith, c.len.ensures, c.if-len-ge-MAX_PINS.false)) is c.self.invariant.0),
+          (omega (arith, c.len.ensures, c.if-len-ge-MAX_PINS.false)) (omega (arith, c.of-pin.ensures.from, c.len-2.ensures)) is
+          c.self.invariant.0),
       omega (arith, c.push.ensures.capacity, c.self.invariant.1),
     )

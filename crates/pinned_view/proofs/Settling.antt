@@ -1,0 +1,144 @@
+-- How lists of images are settled, and what a pin reads meanwhile.
+use Rattle.std.proofs.Common.{◌≡◌, ℕ, zero, suc, ◌+◌, ◌*◌, ◌<◌, ◌≤◌, refl, sym, ap, ap₂, ◌∙◌, subst, false, List, [], ◌∷◌, ◌++◌, drop, length}
+use Rattle.std.proofs.Common.{map, get_or, arith, length-append}
+use Rattle.std.proofs.lemmas.Simd.{map-map}
+use Rattle.std.specs.FinMap as finmap
+use Rattle.qc_arena.specs.Map.{ImageMap}
+use Rattle.pinned_view.specs.Pins.{AreSettledFrom, AreWithin, IsMergedAt, IsSettledAt, KeepsReads, moved_over}
+use Rattle.pinned_view.specs.Pins.{reads_from, unplaced}
+use Rattle.pinned_view.specs.declared.pins.Pin.{Pin}
+use Rattle.pinned_view.proofs.Joining.{merged_reads}
+use Rattle.pinned_view.proofs.Places.{least_over, read_over, without_within}
+use Rattle.pinned_view.proofs.Sizes.{later_fewer}
+use Rattle.pinned_view.proofs.StoredNumbers.{stored_merged, stored_same, stored_twice}
+
+pub keeps_same : (kept : List ImageMap) (pins : List Pin) → KeepsReads kept pins kept pins
+keeps_same kept pins = record {
+  pins = refl;
+  trees = λ tree. refl;
+  within = λ w. w;
+  first = omega arith;
+  stores = stored_same kept;
+}
+
+pub keeps_twice : (a : List ImageMap) (p : List Pin) (b : List ImageMap) (q : List Pin) (c : List ImageMap) (r : List Pin)
+    → KeepsReads a p b q → KeepsReads b q c r → KeepsReads a p c r
+keeps_twice a p b q c r one two = record {
+  pins = two.pins ∙ one.pins;
+  trees = λ tree. two.trees tree ∙ one.trees tree;
+  within = λ w. two.within (one.within w);
+  first = omega (arith, one.first, two.first);
+  stores = stored_twice a b c one.stores two.stores;
+}
+
+within_over : (gone n m : ℕ) (pins : List Pin) → n ≡ suc m → gone ≤ m → AreWithin n pins
+    → AreWithin m (map (moved_over gone) pins)
+within_over gone n m [] e g within = tt
+within_over gone n m (pin ∷ pins) e g within =
+    (without_within gone pin.from m g (omega (arith, e, within.0)), within_over gone n m pins e g within.1)
+
+-- a merge that no pin reads from within
+pub keeps_merged : (place : ℕ) (kept kept' : List ImageMap) (pins : List Pin) → IsMergedAt place kept kept'
+    → reads_from pins (suc place) ≡ false → KeepsReads kept pins kept' (map (moved_over (suc place)) pins)
+keeps_merged place kept kept' pins m none =
+    let long = ap (λ (k : List ImageMap). length k) m.was ∙ length-append m.front (m.older ∷ m.later ∷ m.back) in
+    let short = ap (λ (k : List ImageMap). length k) m.now ∙ length-append m.front (m.both ∷ m.back) in
+    record {
+      pins = map-map unplaced (moved_over (suc place)) pins;
+      trees = λ tree. merged_reads place kept kept' pins tree m none;
+      within = within_over (suc place) (length kept) (length kept') pins (omega (arith, long, short))
+          (omega (arith, short, m.at));
+      first = least_over (suc place) (length kept) (length kept') pins (omega (arith, long, short));
+      stores = stored_merged place kept kept' m;
+    }
+
+-- a merge leaves a list at its place
+pub merged_within : (place : ℕ) (kept kept' : List ImageMap) → IsMergedAt place kept kept' → place < length kept'
+merged_within place kept kept' m =
+    omega (
+      arith,
+      m.at,
+      ap (λ (k : List ImageMap). length k) m.now,
+      length-append m.front (m.both ∷ m.back),
+    )
+
+two_at : (kept : List ImageMap) (n : ℕ) (a b : ImageMap) → suc n < length kept → a ≡ get_or kept n a
+    → b ≡ get_or kept (suc n) b → (back : List ImageMap) × (drop n kept ≡ a ∷ b ∷ back)
+two_at [] n a b w p q = absurd (omega (arith, w))
+two_at (x ∷ []) n a b w p q = absurd (omega (arith, w))
+two_at (x ∷ y ∷ kept) zero a b w p q = (kept, ap₂ (λ (i j : ImageMap). i ∷ j ∷ kept) (sym p) (sym q))
+two_at (x ∷ y ∷ kept) (suc n) a b w p q = two_at (y ∷ kept) n a b (omega (arith, w)) p q
+
+-- images that are more than twice the next
+pub settled_at : (kept : List ImageMap) (pins : List Pin) (n : ℕ) (a b : ImageMap) → suc n < length kept
+    → a ≡ get_or kept n a → b ≡ get_or kept (suc n) b → 2 * finmap.len b + 2 ≤ finmap.len a
+    → IsSettledAt n (drop n kept) pins
+settled_at kept pins n a b w p q more =
+    let two = two_at kept n a b w p q in
+    subst (λ (k : List ImageMap). IsSettledAt n k pins) (sym two.1) (λ none. more)
+
+settled_next : (kept : List ImageMap) (pins : List Pin) (n place : ℕ) → n < length kept
+    → IsSettledAt place (drop n kept) pins → AreSettledFrom (suc place) (drop (suc n) kept) pins
+    → AreSettledFrom place (drop n kept) pins
+settled_next [] pins n place w at rest = absurd (omega (arith, w))
+settled_next (x ∷ kept) pins zero place w at rest = (at, rest)
+settled_next (x ∷ kept) pins (suc n) place w at rest = settled_next kept pins n place (omega (arith, w)) at rest
+
+-- a place that is settled before those that are
+pub settled_more : (kept : List ImageMap) (pins : List Pin) (n : ℕ) → n < length kept → IsSettledAt n (drop n kept) pins
+    → AreSettledFrom (suc n) (drop (suc n) kept) pins → AreSettledFrom n (drop n kept) pins
+settled_more kept pins n w at rest = settled_next kept pins n n w at rest
+
+shift : (gone place : ℕ) (back : List ImageMap) (pins : List Pin) → gone ≤ place → AreSettledFrom (suc place) back pins
+    → AreSettledFrom place back (map (moved_over gone) pins)
+shift gone place [] pins w is = tt
+shift gone place (x ∷ []) pins w is = (tt, tt)
+shift gone place (x ∷ y ∷ back) pins w is = (
+  λ none. is.0 (read_over gone (suc place) pins (omega (arith, w)) none),
+  shift gone (suc place) (y ∷ back) pins (omega (arith, w)) is.1,
+)
+
+merged_first : (place : ℕ) (later both : ImageMap) (back : List ImageMap) (pins : List Pin)
+    → finmap.len later ≤ finmap.len both → AreSettledFrom (suc place) (later ∷ back) pins
+    → AreSettledFrom place (both ∷ back) (map (moved_over (suc place)) pins)
+merged_first place later both [] pins w is = (tt, tt)
+merged_first place later both (y ∷ back) pins w is = (
+  λ none. larger (is.0 (read_over (suc place) (suc place) pins (omega arith) none)),
+  shift (suc place) (suc place) (y ∷ back) pins (omega arith) is.1,
+)
+  where
+    larger : 2 * finmap.len y + 2 ≤ finmap.len later → 2 * finmap.len y + 2 ≤ finmap.len both
+    larger h = omega (arith, h, w)
+
+drop_front : (front rest : List ImageMap) → drop (length front) (front ++ rest) ≡ rest
+drop_front [] rest = refl
+drop_front (i ∷ front) rest = drop_front front rest
+
+drop_two : (front : List ImageMap) (x : ImageMap) (rest : List ImageMap) → drop (suc (length front)) (front ++ x ∷ rest) ≡ rest
+drop_two [] x rest = refl
+drop_two (i ∷ front) x rest = drop_two front x rest
+
+-- merged images are as settled as the later ones were
+pub settled_merged : (place : ℕ) (kept kept' : List ImageMap) (pins : List Pin) → IsMergedAt place kept kept'
+    → AreSettledFrom (suc place) (drop (suc place) kept) pins
+    → AreSettledFrom place (drop place kept') (map (moved_over (suc place)) pins)
+settled_merged place kept kept' pins m is =
+    let was : drop (suc place) kept ≡ m.later ∷ m.back
+    = ap₂ (λ n (k : List ImageMap). drop (suc n) k) (sym m.at) m.was ∙ drop_two m.front m.older (m.later ∷ m.back) in
+    let now : drop place kept' ≡ m.both ∷ m.back
+    = ap₂ (λ n (k : List ImageMap). drop n k) (sym m.at) m.now ∙ drop_front m.front (m.both ∷ m.back) in
+    subst (λ (k : List ImageMap). AreSettledFrom place k (map (moved_over (suc place)) pins)) (sym now)
+    (merged_first place m.later m.both m.back pins (later_fewer m.older m.later m.both m.merged)
+    (subst (λ (k : List ImageMap). AreSettledFrom (suc place) k pins) was is))
+
+-- the last place is settled
+pub settled_last : (kept : List ImageMap) (pins : List Pin) (n : ℕ) → length kept ≤ suc n
+    → AreSettledFrom n (drop n kept) pins
+settled_last kept pins n w = last kept n n w
+  where
+    last : (k : List ImageMap) (m place : ℕ) → length k ≤ suc m → AreSettledFrom place (drop m k) pins
+    last [] zero place w = tt
+    last [] (suc m) place w = tt
+    last (x ∷ []) zero place w = (tt, tt)
+    last (x ∷ y ∷ k) zero place w = absurd (omega (arith, w))
+    last (x ∷ k) (suc m) place w = last k m place (omega (arith, w))
