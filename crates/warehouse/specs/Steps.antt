@@ -9,7 +9,7 @@ use Rattle.cube_defs.specs.Text.{Text, text_cmp}
 use Rattle.cube_defs.specs.Tree.{IsCanonical, nodes}
 use Rattle.base_table.specs.Places.{Places, has_id, row_at, rows_in, values_of}
 use Rattle.csv_load.specs.Batch.{Batch, Change, Delete, Insert, IsBatch, deleted, inserted}
-use Rattle.qc_arena.specs.Map.{Arena}
+use Rattle.qc_arena.specs.Map.{Arena, is_open}
 use Rattle.value_dict.specs.TextLists.{IsDictionary, TextLists, cut, learnt_in}
 use Rattle.warehouse.specs.Batch as batches
 use Rattle.warehouse.specs.Batch.{Refusal, full_dim, refusal_of, rows_after, with_tuple}
@@ -46,6 +46,11 @@ pub record IsTreeBefore (table : Places) (tree : Arena) (place : ℕ) : Type 0 w
   pub within : place ≤ length table.places
   pub canonical : IsCanonical nat_cmp table.measures (rows_before table place) tree.now
   pub fits : length (nodes nat_cmp (rows_before table place)) ≤ tree.max
+
+-- a batch is open on the tree, whose cells are as wide as the table's rows
+pub record IsOpenFor (table : Places) (tree : Arena) : Type 0 where
+  pub opened : is_open tree ≡ true
+  pub width : tree.width ≡ table.dims
 
 -- all places are as they were, and others may stand after them
 abbrev pub HasPrefix : Places → Places → Type 0

@@ -17,7 +17,7 @@ ghost use Rattle.warehouse.specs.Changing.{AreAsBefore, AreFit, AreInserted, Are
 ghost use Rattle.warehouse.specs.InPlace.{KeepsOtherRecords, KeepsNumbers, TouchesOnly, cost_in, cost_of_insertions, has_image};
 ghost use Rattle.warehouse.specs.Loading.{IsLoad, cost_of_tree};
 ghost use Rattle.warehouse.specs.State.{IsIndexed, State};
-ghost use Rattle.warehouse.specs.Steps.{IsCause, IsOver, IsTreeBefore, is_there, rows_before, rows_from_place};
+ghost use Rattle.warehouse.specs.Steps.{IsCause, IsOpenFor, IsOver, IsTreeBefore, is_there, rows_before, rows_from_place};
 ghost use Rattle.warehouse.specs.Stored.{IsTreeOfTable, IsStored, IsTreeOfSome, applied_in, refusal_in};
 
 use crate::Memory;
@@ -209,8 +209,7 @@ pub(crate) fn rebuild<L: Ledger>(
     alloc: Global,
     steps: &mut Steps<L>,
 ) -> Result<(), ArenaRefused>
-    requires opened { is_open tree.old ≡ true }
-    requires width { tree.old.width ≡ table.now.dims }
+    requires { IsOpenFor table.now tree.old }
     ensures tree { OnOk result
         (IsCanonical nat_cmp table.now.measures (rows_of table.now) tree.new.now) }
     ensures fits { OnOk result (length (nodes nat_cmp (rows_of table.now)) ≤ tree.old.max) }
@@ -244,8 +243,7 @@ fn make_tree<L: Ledger>(
     alloc: Global,
     steps: &mut Steps<L>,
 ) -> Result<(), ArenaRefused>
-    requires opened { is_open tree.old ≡ true }
-    requires width { tree.old.width ≡ table.now.dims }
+    requires open { IsOpenFor table.now tree.old }
     requires tree { IsTreeBefore table.now tree.old first }
     ensures tree { OnOk result
         (IsCanonical nat_cmp table.now.measures (rows_of table.now) tree.new.now) }

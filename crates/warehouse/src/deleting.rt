@@ -4,14 +4,13 @@ ghost use Rattle.base_table.specs.Places.{has_id, rows_of};
 ghost use Rattle.batch_delete.specs.Rests.{Deletion};
 ghost use Rattle.cube_defs.specs.Tree.{IsCanonical, nodes};
 ghost use Rattle.qc_arena.specs.Map as arena;
-ghost use Rattle.qc_arena.specs.Map.{is_open};
 ghost use Rattle.std.specs.Ordering.{nat_cmp};
 ghost use Rattle.warehouse.specs.Batch as batches;
 ghost use Rattle.warehouse.specs.Batch.{first_number, first_twice, is_missing};
 ghost use Rattle.warehouse.specs.Changing.{AreDeleted, IsTakenOut};
 ghost use Rattle.warehouse.specs.InPlace.{IsDeletion};
 ghost use Rattle.warehouse.specs.State.{ids_of};
-ghost use Rattle.warehouse.specs.Steps.{frame};
+ghost use Rattle.warehouse.specs.Steps.{IsOpenFor, frame};
 ghost use Rattle.warehouse.specs.Stored.{refusal_in};
 
 use crate::Memory;
@@ -36,8 +35,7 @@ fn delete_id<L: Ledger>(
     ghost deletion: { Deletion }
     requires goes { has_id (rows_of table.old) id ≡ true → IsDeletion table.old id deletion }
     requires batch { is_some table.old.was ≡ true }
-    requires opened { is_open tree.old ≡ true }
-    requires width { tree.old.width ≡ table.old.dims }
+    requires open { IsOpenFor table.old tree.old }
     requires tree { IsCanonical nat_cmp table.old.measures (rows_of table.old) tree.old.now }
     ensures there { IfOk result (λ there. there ≡ has_id (rows_of table.old) id) }
     ensures gone { IfOk result (λ there. there ≡ true →
@@ -70,8 +68,7 @@ pub(crate) fn delete_rows<L: Ledger>(
 ) -> Result<(), Refused>
     requires batch { is_some table.old.was ≡ true }
     requires once { first_twice batch.now.changes ≡ None }
-    requires opened { is_open tree.old ≡ true }
-    requires width { tree.old.width ≡ table.old.dims }
+    requires open { IsOpenFor table.old tree.old }
     requires tree { IsCanonical nat_cmp table.old.measures (rows_of table.old) tree.old.now }
     requires few_nodes { length (nodes nat_cmp (rows_of table.old)) ≤ tree.old.max }
     ensures none { OnOk result

@@ -1,12 +1,11 @@
 // Puts new rows into the tree in place, one after another.
-ghost use Rattle.std.specs.Prelude.{Err, OnOk, length, true, ◌+◌, ◌<◌, ◌≡◌, ◌≤◌};
+ghost use Rattle.std.specs.Prelude.{Err, OnOk, length, ◌+◌, ◌<◌, ◌≡◌, ◌≤◌};
 ghost use Rattle.base_table.specs.Places.{rows_of};
 ghost use Rattle.cube_defs.specs.Tree.{IsCanonical, nodes};
 ghost use Rattle.qc_arena.specs.Map as arena;
-ghost use Rattle.qc_arena.specs.Map.{is_open};
 ghost use Rattle.std.specs.Ordering.{nat_cmp};
 ghost use Rattle.warehouse.specs.InPlace.{KeepsOtherRecords, KeepsNumbers, TouchesOnly, cost_of_insertions};
-ghost use Rattle.warehouse.specs.Steps.{IsTreeBefore, rows_at, rows_before, rows_from_place};
+ghost use Rattle.warehouse.specs.Steps.{IsOpenFor, IsTreeBefore, rows_at, rows_before, rows_from_place};
 
 use base_table::Table;
 use batch_insert::insert_row;
@@ -23,8 +22,7 @@ fn insert_in_tree_at<L: Ledger>(
     alloc: Global,
     steps: &mut Steps<L>,
 ) -> Result<(), ArenaRefused>
-    requires opened { is_open tree.old ≡ true }
-    requires width { tree.old.width ≡ table.now.dims }
+    requires open { IsOpenFor table.now tree.old }
     requires place { place < length table.now.places }
     requires tree { IsTreeBefore table.now tree.old place }
     ensures tree { OnOk result (IsTreeBefore table.now tree.new (place + 1)) }
@@ -59,8 +57,7 @@ pub(crate) fn insert_in_tree<L: Ledger>(
     alloc: Global,
     steps: &mut Steps<L>,
 ) -> Result<(), ArenaRefused>
-    requires opened { is_open tree.old ≡ true }
-    requires width { tree.old.width ≡ table.now.dims }
+    requires open { IsOpenFor table.now tree.old }
     requires tree { IsTreeBefore table.now tree.old first }
     ensures tree { OnOk result
         (IsCanonical nat_cmp table.now.measures (rows_of table.now) tree.new.now) }

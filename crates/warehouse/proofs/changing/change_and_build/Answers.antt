@@ -86,13 +86,12 @@ returns-in-Ok-make_tree-clause-in_place g c = λ in_place.
           (length c.args.schema.now.dims) begun here end going coming);
     }
 
-pub make_tree-requires-clause-opened : goal.make_tree-requires-clause-opened
-make_tree-requires-clause-opened g c = ap is_open c.change_rows.ensures.frames.of_tree ∙ c.requires.begun.tree_open
-
-pub make_tree-requires-clause-width : goal.make_tree-requires-clause-width
-make_tree-requires-clause-width g c =
-    ap (λ (a : Arena). a.width) c.change_rows.ensures.frames.of_tree ∙ c.requires.begun.width
-    ∙ sym (ap (λ (t : Places). t.dims) c.change_rows.ensures.frames.of_table ∙ c.requires.begun.stored.dims)
+pub make_tree-requires-clause-open : goal.make_tree-requires-clause-open
+make_tree-requires-clause-open g c = record {
+  opened = ap is_open c.change_rows.ensures.frames.of_tree ∙ c.requires.begun.tree_open;
+  width = ap (λ (a : Arena). a.width) c.change_rows.ensures.frames.of_tree ∙ c.requires.begun.width
+      ∙ sym (ap (λ (t : Places). t.dims) c.change_rows.ensures.frames.of_table ∙ c.requires.begun.stored.dims);
+}
 
 pub make_tree-requires-clause-tree : goal.make_tree-requires-clause-tree
 make_tree-requires-clause-tree g c = c.in-Ok.ensures.made.before

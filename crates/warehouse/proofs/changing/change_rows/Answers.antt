@@ -22,8 +22,11 @@ use Rattle.warehouse.proofs.Inserting.{place-within, rows-prefix}
 use Rattle.warehouse.proofs.Texts.{full-none, longer-same}
 use Rattle.warehouse.proofs.changing.change_rows.Goals as goal
 
-pub delete_rows-requires-clause-width : goal.delete_rows-requires-clause-width
-delete_rows-requires-clause-width g c = c.requires.begun.width ∙ sym c.requires.begun.stored.dims
+pub delete_rows-requires-clause-open : goal.delete_rows-requires-clause-open
+delete_rows-requires-clause-open g c = record {
+  opened = c.requires.begun.tree_open;
+  width = c.requires.begun.width ∙ sym c.requires.begun.stored.dims;
+}
 
 pub returns-in-Err-clause-frames : goal.returns-in-Err-clause-frames
 returns-in-Err-clause-frames g c =

@@ -24,12 +24,12 @@ delete_row-requires g c κs within =
     let same : u ≡ cell_of g.deletion.r.tuple = tuple-is t c.args.id g.deletion is row u _ c.in-Ok.ensures.taken in (
       within,
       (
-        c.requires.1.1.1.0,
+        c.requires.1.1.1.0.opened,
         (
-          tuple-long t c.args.id g.deletion is row u same ∙ sym c.requires.1.1.1.1.0,
+          tuple-long t c.args.id g.deletion is row u same ∙ sym c.requires.1.1.1.0.width,
           (
-            from-is t c.args.id g.deletion is row c.args.tree.now.width c.args.tree.now.now c.requires.1.1.1.1.0
-                c.requires.1.1.1.1.1,
+            from-is t c.args.id g.deletion is row c.args.tree.now.width c.args.tree.now.now c.requires.1.1.1.0.width
+                c.requires.1.1.1.1,
             (
               same,
               (

@@ -75,14 +75,14 @@ delete_id-requires g c κs within =
         (
           ap (λ (t : Places). is_some t.was) c.changes.invariant.frame ∙ c.requires.batch,
           (
-            ap is_open c.changes.invariant.tree_frame ∙ c.requires.opened,
-            (
-              ap (λ (a : Arena). a.width) c.changes.invariant.tree_frame ∙ c.requires.width ∙ sym dims,
-              subst (λ (m : ℕ). IsCanonical nat_cmp m (rows_of t) c.changes.tree.now)
-                  (sym (ap (λ (t : Places). t.measures) c.changes.invariant.frame))
-                  (subst (λ (rs : List (Row ℕ)). IsCanonical nat_cmp c.args.table.now.measures rs c.changes.tree.now)
-                  (sym c.changes.invariant.rows) c.changes.invariant.canonical),
-            ),
+            record {
+              opened = ap is_open c.changes.invariant.tree_frame ∙ c.requires.open.opened;
+              width = ap (λ (a : Arena). a.width) c.changes.invariant.tree_frame ∙ c.requires.open.width ∙ sym dims;
+            },
+            subst (λ (m : ℕ). IsCanonical nat_cmp m (rows_of t) c.changes.tree.now)
+                (sym (ap (λ (t : Places). t.measures) c.changes.invariant.frame))
+                (subst (λ (rs : List (Row ℕ)). IsCanonical nat_cmp c.args.table.now.measures rs c.changes.tree.now)
+                (sym c.changes.invariant.rows) c.changes.invariant.canonical),
           ),
         ),
       ),

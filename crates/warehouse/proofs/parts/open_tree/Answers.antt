@@ -4,19 +4,22 @@ use Rattle.std.specs.FinSet as set
 use Rattle.std.specs.Ordering.{nat_cmp}
 use Rattle.base_table.specs.Places.{rows_of}
 use Rattle.cube_defs.specs.Tree.{nodes}
-use Rattle.qc_arena.specs.Map.{Arena, no_nodes, shape_of}
+use Rattle.qc_arena.specs.Map.{Arena, is_open, no_nodes, shape_of}
 use Rattle.warehouse.proofs.parts.open_tree.Goals as goal
 
 -- an arena in which a batch is opened
 abbrev opened : Arena → Arena
 opened a = record a { was = Some (shape_of a); touched = set.empty; last = finmap.empty }
 
-pub rebuild-requires-clause-width : goal.rebuild-requires-clause-width
-rebuild-requires-clause-width g c =
+pub rebuild-requires : goal.rebuild-requires
+rebuild-requires g c =
     let l = c.args.schema.now in
     let made : c.in_ok-tree.tree ≡ no_nodes (length l.dims) l.nodes = c.in_ok-tree.ensures
     ∙ ap₂ no_nodes c.dims.ensures.count c.nodes.ensures in
-    ap (λ (a : Arena). a.width) (c.begin.ensures ∙ ap opened made) ∙ sym c.requires
+    record {
+      opened = ap is_open c.begin.ensures;
+      width = ap (λ (a : Arena). a.width) (c.begin.ensures ∙ ap opened made) ∙ sym c.requires;
+    }
 
 pub returns-in-Ok-clause-tree : goal.returns-in-Ok-clause-tree
 returns-in-Ok-clause-tree g c =

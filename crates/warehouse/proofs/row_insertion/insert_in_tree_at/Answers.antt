@@ -19,7 +19,7 @@ insert_row-requires-clause-no_any g c =
 pub insert_row-requires-clause-tree : goal.insert_row-requires-clause-tree
 insert_row-requires-clause-tree g c =
     source-before c.args.table.now c.args.tree.now c.args.place c.tuple-tuple.result c.amounts.result.now
-    c.recall_invariant.ensures c.requires.width c.requires.tree c.requires.place
+    c.recall_invariant.ensures c.requires.open.width c.requires.tree c.requires.place
     (row-there c.args.table.now c.args.place c.in-Some.row.0 c.tuple-tuple.result c.amounts.result.now
     c.in-Some.ensures.some.0 c.in-Some.ensures.some.1 c.tuple-tuple.ensures.value c.amounts.ensures.value)
     c.amounts.ensures.measures
@@ -27,7 +27,7 @@ insert_row-requires-clause-tree g c =
 pub returns-in-Ok-clause-tree : goal.returns-in-Ok-clause-tree
 returns-in-Ok-clause-tree g c =
     row-came c.args.table.now c.args.tree.now c.args.place c.tuple-tuple.result c.amounts.result.now
-    c.recall_invariant.ensures c.requires.width c.requires.tree c.requires.place
+    c.recall_invariant.ensures c.requires.open.width c.requires.tree c.requires.place
     (row-there c.args.table.now c.args.place c.in-Some.row.0 c.tuple-tuple.result c.amounts.result.now
     c.in-Some.ensures.some.0 c.in-Some.ensures.some.1 c.tuple-tuple.ensures.value c.amounts.ensures.value)
     c.amounts.ensures.measures c.insert_row.new.arena (ap (λ (a : Arena). a.max) c.insert_row.ensures.frame)
@@ -36,7 +36,7 @@ returns-in-Ok-clause-tree g c =
 pub returns-in-Err-clause-full : goal.returns-in-Err-clause-full
 returns-in-Err-clause-full g c = λ e.
     row-full c.args.table.now c.args.tree.now c.args.place c.tuple-tuple.result c.amounts.result.now
-    c.recall_invariant.ensures c.requires.width c.requires.tree c.requires.place
+    c.recall_invariant.ensures c.requires.open.width c.requires.tree c.requires.place
     (row-there c.args.table.now c.args.place c.in-Some.row.0 c.tuple-tuple.result c.amounts.result.now
     c.in-Some.ensures.some.0 c.in-Some.ensures.some.1 c.tuple-tuple.ensures.value c.amounts.ensures.value)
     c.amounts.ensures.measures (c.in-Err.ensures.full e)
@@ -65,7 +65,7 @@ returns-in-Err-clause-apart g c =
 pub returns-in-Ok-clause-steps : goal.returns-in-Ok-clause-steps
 returns-in-Ok-clause-steps g c =
     row-costs c.args.table.now c.args.tree.now c.args.place c.tuple-tuple.result c.amounts.result.now
-    c.recall_invariant.ensures c.requires.width c.requires.tree c.requires.place
+    c.recall_invariant.ensures c.requires.open.width c.requires.tree c.requires.place
     (row-there c.args.table.now c.args.place c.in-Some.row.0 c.tuple-tuple.result c.amounts.result.now
     c.in-Some.ensures.some.0 c.in-Some.ensures.some.1 c.tuple-tuple.ensures.value c.amounts.ensures.value)
     c.amounts.ensures.measures c.args.steps.now c.insert_row.new.steps c.in-Ok.ensures.steps c.tuple-tuple.ensures.dims
