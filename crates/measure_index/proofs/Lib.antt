@@ -10,4 +10,5 @@ pub mod Keyed
 pub mod Filled
 pub mod Units
 pub mod FillingLemmas
+mod SetSizes
 pub mod CallerLemmas

@@ -1,6 +1,6 @@
 // Classes that are gathered for an index.
 ghost use Rattle.std.specs.List.{AllZip};
-ghost use Rattle.std.specs.Prelude.{All, IfOk, List, None, OnOk, Option, [], length, map, ℕ, ◌++◌, ◌∷◌, ◌≡◌, ◌≤◌};
+ghost use Rattle.std.specs.Prelude.{All, IfOk, List, None, OnOk, Option, [], length, map, ℕ, ◌++◌, ◌<◌, ◌∷◌, ◌≡◌, ◌≤◌};
 ghost use Rattle.aggregates.specs.Views.{IsThere};
 ghost use Rattle.aggregates.specs.declared.agg.Agg as aggs;
 ghost use Rattle.cell_core.specs.declared.cell.NodeNo as numbers;
@@ -66,6 +66,7 @@ impl ColumnBuilder {
     }
 
     fn in_order(self, alloc: Global) -> Result<Column, Memory>
+        requires { length self.keys < 4294967296 }
         ensures { IfOk result (λ column. IsRankingOf self column) }
     {
         Column::filled(alloc, self.kind, self.scale, self.keys)
@@ -137,9 +138,10 @@ impl IndexBuilder {
         push_all(&mut self.columns, node, class)
     }
 
-    /// The index of the classes, made without a search for each. It is also refused if there are
-    /// more than 4,294,967,295 classes.
+    /// The index of the classes, made without a search for each. A kind has up to 4,294,967,295
+    /// entries.
     pub fn finish(self) -> Result<Index, Memory>
+        requires { All (λ c. length c.keys < 4294967296) self }
         ensures units { IfOk result (λ index. units index ≡ gathered_units self) }
         ensures classes { IfOk result
             (λ index. (classes : List (numbers.NodeNo × aggs.Agg)) (class : ℕ → Option defs.Agg)

@@ -62,30 +62,26 @@ impl Column {
         }
     }
 
-    /// A column of the classes with these keys, made without a search for each. There may be up to
-    /// 4,294,967,295.
+    /// A column of the classes with these keys, made without a search for each.
     pub(crate) fn filled(
         alloc: Global,
         kind: AggKind,
         scale: u8,
         keys: Vec<Key>,
     ) -> Result<Column, Memory>
-        requires { scale ≤ MAX_SCALE }
+        requires scale { scale ≤ MAX_SCALE }
+        requires few { length keys.items < 4294967296 }
         ensures { IfOk result (λ column. IsRankingOf
             (record { kind = kind; scale = scale; keys = keys.items }) column) }
     {
-        let set = match set_of(alloc, keys) {
-            Ok(set) => set,
-            Err(error) => return Err(error),
-        };
-        if set.len() > u32::MAX as usize {
-            return Err(AllocError);
+        match set_of(alloc, keys) {
+            Ok(set) => Ok(Column {
+                kind,
+                scale,
+                keys: set,
+            }),
+            Err(error) => Err(error),
         }
-        Ok(Column {
-            kind,
-            scale,
-            keys: set,
-        })
     }
 
     pub(crate) fn kind(&self) -> AggKind
@@ -148,6 +144,7 @@ impl Column {
             (entries_at self.old.kind self.old.scale came.items)) }
         ensures err { OnErr result (self.new ≡ self.old) }
     {
+        // A caller of `Index::change` may add so many.
         if self.keys.len() + added.len() > u32::MAX as usize {
             return Err(AllocError);
         }

@@ -29,6 +29,7 @@ pub(crate) fn set_of<K: Ord + Copy>(
 ) -> Result<BTreeSet<K, Global>, Memory>
     ensures has { IfOk result (λ s. (q : K) → contains K.cmp s q ≡ among K.cmp items.items q) }
     ensures ordered { IfOk result (λ s. IsOrdered K.cmp s) }
+    ensures few { IfOk result (λ s. btree_set_len s ≤ length items.items) }
 {
     let mut sorted = items;
     sorted.sort_unstable();

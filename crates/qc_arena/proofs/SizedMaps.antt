@@ -16,7 +16,7 @@ use Rattle.qc_arena.specs.declared.tree_totals.TreeTotals.{TreeTotals}
 use Rattle.qc_arena.specs.Changes.{class_in}
 use Rattle.qc_arena.specs.Codes.{Shape}
 use Rattle.qc_arena.specs.Map.{Known}
-use Rattle.qc_arena.specs.Inside.{AreBegun, AreTotals, IsRoot, begun, join, now_of}
+use Rattle.qc_arena.specs.Inside.{AreBegun, AreTotals, IsCounted, IsRoot, begun, join, now_of}
 use Rattle.qc_arena.specs.Resized.{all_resized, entry_resized, resize, resized}
 use Rattle.qc_arena.proofs.Sizes.{depth-resize, depth_long, length-resize, resize_again, resize_any, resize_more, resize_whole}
 use Rattle.qc_arena.proofs.SlotMaps.{get_now, map_is}
@@ -161,6 +161,12 @@ module _ (w n m : ℕ) (t : Tree ℕ) (kept : TreeTotals) (is : AreTotals w m t 
     λ q e. one.1 q (root_back q e),
   )
 
+  counted_longer : (q : ℕ) (x : Known) (o : Option Known) → maps.get t q ≡ o → option_map (resized n) o ≡ Some x
+      → IsCounted q x
+  counted_longer q x None at e = cc
+  counted_longer q x (Some r) at e = let same : resized n r ≡ x = cc in
+      subst (IsCounted q) same (record { number = (is.counted q r at).number; edges = (is.counted q r at).edges })
+
   -- what is kept of a map is right of that with more dimensions
   pub kept_longer : AreTotals n m (all_resized n t) kept
   kept_longer = record {
@@ -170,6 +176,7 @@ module _ (w n m : ℕ) (t : Tree ℕ) (kept : TreeTotals) (is : AreTotals w m t 
     edges = is.edges ∙ sym (sum-resized width_of n (λ r. refl) t);
     few = let long = len-resized n t in let few = is.few in omega arith;
     cells = λ q c e. let x = was_cell n t q c e in ap (λ (c : Cell ℕ). length c) x.2 ∙ length-resize n x.0;
+    counted = λ q x e. counted_longer q x (maps.get t q) refl (sym (get-resized n t q) ∙ e);
   }
 
 -- no dimension came since `begin`

@@ -1,6 +1,7 @@
 -- What is kept of a map, as a record comes or changes.
-use Rattle.std.proofs.Common.{◌≡◌, ◌≢◌, ℕ, zero, suc, ◌+◌, ◌<◌, ◌≤◌, Bool, true, false, cond, Option, Some, None, IsSome, is_some, List, []}
-use Rattle.std.proofs.Common.{◌∷◌, map, length, refl, sym, ap, subst, ◌∙◌, arith, true≢false, nat_cmp, set, length-set, replicate, inl, inr}
+use Rattle.std.proofs.Common.{◌≡◌, ◌≢◌, ℕ, zero, suc, ◌+◌, ◌*◌, ◌<◌, ◌≤◌, Bool, true, false, cond, Option, Some, None}
+use Rattle.std.proofs.Common.{IsSome, is_some, List, [], ◌∷◌, map, length, refl}
+use Rattle.std.proofs.Common.{sym, ap, subst, ◌∙◌, arith, true≢false, nat_cmp, set, length-set, replicate, inl, inr}
 use Rattle.std.proofs.lemmas.Bool.Decides.{eqb_tells}
 use Rattle.std.proofs.lemmas.Bool.{cond-true, cond-false, eq-eqb}
 use Rattle.std.specs.Cmp.{nat_cmp_total}
@@ -16,10 +17,11 @@ use Rattle.qc_arena.specs.declared.tree_totals.TreeTotals.{TreeTotals}
 use Rattle.qc_arena.specs.RecordReaders.{record_at, record_or}
 use Rattle.qc_arena.specs.Map.{Known, IsPlace, edges_in, new_record}
 use Rattle.qc_arena.specs.Counted.{root_after, root_without}
-use Rattle.qc_arena.specs.Inside.{AreTotals, IsRoot}
+use Rattle.qc_arena.specs.Inside.{AreTotals, IsCounted, IsRoot}
 use Rattle.qc_arena.proofs.Imaged.{eq_apart}
-use Rattle.qc_arena.proofs.Totals.{total-few, total-insert, worth}
+use Rattle.qc_arena.proofs.Totals.{total-few, total-insert, total-within, worth}
 use Rattle.cube_laws.proofs.CallerLemmas.{eq_cmp}
+use Rattle.tree_laws.proofs.CallerLemmas.{some_same}
 
 pub at_added : (t : Tree ℕ) (k : ℕ) (n : Known) → map.get (map.insert t k n) k ≡ Some n
 at_added t k n = map.get-insert nat_cmp_total t k n k ∙ cond-true _ _ _ (eq_cmp k k ∙ eq-eqb k k refl)
@@ -88,11 +90,25 @@ edges_put : (t : Tree ℕ) (k : ℕ) (n : Known)
     → edges_in (map.insert t k n) + worth width_of (map.get t k) ≡ edges_in t + width_of n
 edges_put t k n = total-insert width_of t k n
 
+-- a record is put into a map
+counted_put : (t : Tree ℕ) (k : ℕ) (n : Known) → ((q : ℕ) (x : Known) → map.get t q ≡ Some x → IsCounted q x)
+    → k < 4294967296 → width_of n < 4294967296
+    → (q : ℕ) (x : Known) → map.get (map.insert t k n) q ≡ Some x → IsCounted q x
+counted_put t k n all number edges q x e = elim (eqb_tells q k) [
+  | inl s ↦ let is : n ≡ x = some_same (sym (at_added t k n) ∙ sym (ap (map.get (map.insert t k n)) s.1) ∙ e) in
+      record {
+        number = subst (λ y. y < 4294967296) (sym s.1) number;
+        edges = subst (λ (y : Known). length y.edges < 4294967296) is edges;
+      }
+  | inr s ↦ all q x (sym (off_added t k n q s.1) ∙ e)
+]
+
 pub kept_change : (w m : ℕ) (t : Tree ℕ) (kept kept' : TreeTotals) (k : ℕ) (n n' : Known) → AreTotals w m t kept
     → map.get t k ≡ Some n → n'.cell ≡ n.cell
     → kept'.root ≡ kept.root → kept'.nodes ≡ kept.nodes → kept'.classes + has_class n ≡ kept.classes + has_class n'
-    → kept'.edges + width_of n ≡ kept.edges + width_of n' → AreTotals w m (map.insert t k n') kept'
-kept_change w m t kept kept' k n n' is h c r a b d =
+    → kept'.edges + width_of n ≡ kept.edges + width_of n' → width_of n' < 4294967296
+    → AreTotals w m (map.insert t k n') kept'
+kept_change w m t kept kept' k n n' is h c r a b d fits =
     let cells = same_cells t k n n' h c in
     let long = map.len-insert nat_cmp_total t k n' ∙ cond-true _ _ _ (ap (λ (o : Option Known). is_some o) h) in
     let put = classes_put t k n' in
@@ -109,6 +125,7 @@ kept_change w m t kept kept' k n n' is h c r a b d =
       edges = omega arith;
       few = let few = is.few in omega arith;
       cells = λ q x e. is.cells q x (sym (cells q) ∙ e);
+      counted = counted_put t k n' is.counted (is.counted k n h).number fits;
     }
 
 not_all_any : (c : Cell ℕ) (i v w : ℕ) → i < length c → set c i (Some v) ≡ replicate w None → ⊥
@@ -181,10 +198,10 @@ module _ (w m : ℕ) (t : Tree ℕ) (kept : TreeTotals) (is : AreTotals w m t ke
   edges_free (Some u) = refl
 
   pub kept_add : (kept' : TreeTotals) (u : Option (NodeNo × ℕ × ℕ)) (k : ℕ) → map.get t k ≡ None → IsPlace w t u
-      → kept.nodes < m
+      → kept.nodes < m → k < 4294967296
       → kept'.root ≡ root_after kept.root u k → kept'.nodes ≡ kept.nodes + 1 → kept'.classes ≡ kept.classes
       → kept'.edges ≡ kept.edges → AreTotals w m (map.insert t k (new_record w t u)) kept'
-  kept_add kept' u k none p room r a b d =
+  kept_add kept' u k none p room small r a b d =
       let n = new_record w t u in
       let long = map.len-insert nat_cmp_total t k n ∙ cond-false _ _ _ (ap (λ (o : Option Known). is_some o) none) in
       let put = classes_put t k n in
@@ -208,6 +225,7 @@ module _ (w m : ℕ) (t : Tree ℕ) (kept : TreeTotals) (is : AreTotals w m t ke
               ∙ e in let same : n.cell ≡ x = cc in ap length (sym same) ∙ length-new u p
           | inr s ↦ is.cells q x (sym (ap (option_map (λ (y : Known). y.cell)) (off_added t k n q s.1)) ∙ e)
         ];
+        counted = counted_put t k n is.counted small (omega (arith, no_edges));
       }
 
   off_gone : (k q : ℕ) → q ≢ k → cell_at (map.remove t k) q ≡ cell_at t q
@@ -259,6 +277,10 @@ module _ (w m : ℕ) (t : Tree ℕ) (kept : TreeTotals) (is : AreTotals w m t ke
           | inl s ↦ absurd (no_cell k x (ap (λ y. cell_at (map.remove t k) y) (sym s.1) ∙ e))
           | inr s ↦ is.cells q x (sym (off_gone k q s.1) ∙ e)
         ];
+        counted = λ q x e. elim (eqb_tells q k) [
+          | inl s ↦ (let gone : None ≡ Some x = sym (ap (map.get (map.remove t k)) s.1 ∙ at_removed t k) ∙ e in cc)
+          | inr s ↦ is.counted q x (sym (off_removed t k q s.1) ∙ e)
+        ];
       }
 
 pub no_entries : map.entries (map.empty {X = Known} {R = nat_cmp}) ≡ []
@@ -279,6 +301,7 @@ kept_none w m kept r a b d = record {
   edges = d ∙ sym (ap (λ (es : List (ℕ × Known)). sum_by width_of (map (λ e. e.1) es)) no_entries);
   few = let none = map.len-empty nat_cmp Known in omega arith;
   cells = λ q c e. none_there q c e;
+  counted = λ q x e. let gone : None ≡ Some x = sym (map.get-empty nat_cmp q) ∙ e in cc;
 }
 
 -- there are no more classes than nodes
@@ -314,6 +337,15 @@ edges_counted w m t kept k n is h =
     let had = ap (worth width_of) h in
     let all = is.edges in
     omega arith
+
+-- there are far fewer edges than 64 bits count
+pub edges_few : (w m : ℕ) (t : Tree ℕ) (kept : TreeTotals) → AreTotals w m t kept → m ≤ 4000000
+    → kept.edges ≤ 17179869184000000
+edges_few w m t kept is h =
+    let most : edges_in t ≤ map.len t * 4294967296 = total-within width_of t (λ k n e. (is.counted k n e).edges) in
+    let all = is.edges in
+    let few = is.few in
+    omega (arith, most, all, few, h)
 
 -- where a node is there, some are
 pub nodes_counted : (w m : ℕ) (t : Tree ℕ) (kept : TreeTotals) (k : ℕ) (n : Known) → AreTotals w m t kept

@@ -64,5 +64,4 @@ pub record IsNodeRecord (trail : List (ℕ × ℕ)) (noted : List (ℕ × Agg)) 
   pub begun : trail ≢ []
   pub within : IsTrail trail
   pub rising : rises (edges_to edges) ≡ true
-  pub few : length edges < 4294967296
   pub small_edges : list_all is_small (edges_to edges) ≡ true

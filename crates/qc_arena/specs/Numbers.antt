@@ -1,5 +1,5 @@
 -- Numbers of nodes, the last of which are a run.
-use Rattle.std.specs.Prelude.{ℕ, ◌-◌, ◌<◌, ◌≤◌, ◌&&◌, List, if◌then◌else◌, length, nat_eq, nat_lt, refl}
+use Rattle.std.specs.Prelude.{ℕ, ◌-◌, ◌<◌, ◌≤◌, List, if◌then◌else◌, nat_eq, refl}
 use Rattle.std.specs.List.{All, range_with_len}
 use Rattle.std.specs.Coded.{Coded, code_by, coded×, coded_list, coded_ℕ}
 
@@ -18,11 +18,10 @@ run first end = range_with_len first (end - first)
 
 -- a list with a run has no room of its own
 abbrev pub capacity_of : ℕ → ℕ → ℕ
-capacity_of first room = if nat_eq first 4294967296 && nat_lt room 4611686018427387905 then room else 0
+capacity_of first room = if nat_eq first 4294967296 then room else 0
 
 -- all that is listed is smaller than the run
 pub record IsNumberList (listed : List ℕ) (first end : ℕ) : Type 0 where
   pub rises : first ≤ end
   pub small : end ≤ 4294967296
   pub before : All (λ n. n < first) listed
-  pub few : length listed ≤ 4611686018427387904

@@ -9,14 +9,15 @@ ghost use Rattle.aggregates.specs.Views.{agg_in};
 ghost use Rattle.cube_defs.specs.Tree.{cell_at};
 ghost use Rattle.tree_laws.specs.Counts.{classes_in, links_in, tree_edges_in};
 ghost use Rattle.widen_laws.specs.Widened.{with_any_by_number};
-ghost use Rattle.qc_arena.specs.Changes.{AreNew, class_now, class_was};
+ghost use Rattle.qc_arena.specs.Changes.{AreClassNumbers, AreNew, class_now, class_was};
 ghost use Rattle.qc_arena.specs.Edges.{with_edge, without_edge};
 ghost use Rattle.qc_arena.specs.Map.{AreRooted, CanChange, IsPlace, edges_in, frame, is_open, is_touched, new_record, no_nodes, overlaid, shape_of, was_at, with_class, with_forced};
 ghost use Rattle.qc_arena.specs.RecordReaders.{edge_of, record_at};
 ghost use Rattle.qc_arena.specs.Resized.{resized};
 
 use crate::Memory;
-use crate::class_changes::{changed, class_in_place};
+use crate::class_changes::changed;
+use crate::class_numbers::numbers_of_classes;
 use crate::counted::{record_in, tree_edges_of};
 use crate::edges::PlainEdge;
 use crate::images::Images;
@@ -35,7 +36,7 @@ use aggregates::Agg;
 use cell_core::{Code, NodeNo, Steps};
 use cube_defs::{MAX_DIMS, MAX_NODES};
 use slab::Slab;
-use std::alloc::{AllocError, Global};
+use std::alloc::Global;
 use std::marker::Model;
 use std::mem::replace;
 use std::sync::ledger::Ledger;
@@ -275,9 +276,6 @@ impl QcArena {
             code,
             target: target.0,
         };
-        if !self.kept.has_room() {
-            return Err(AllocError);
-        }
         match set_edge_at(&mut self.nodes, node.0, edge) {
             Ok((had, has)) => {
                 self.kept = self.kept.with_edges(had, has);
@@ -317,6 +315,17 @@ impl QcArena {
         self.kept = self.kept.without_node(node.0, is_class, had);
     }
 
+    // The node at a place, if there is one. Its number has 32 bits.
+    fn node_at(&self, place: usize) -> Option<NodeNo>
+        ensures some { IfSome result (λ k. (k.0 ≡ place) × IsSome (map.get self.now.now place)) }
+        ensures none { IfNone result (map.get self.now.now place ≡ None) }
+    {
+        match record_in(&self.nodes, place) {
+            Some(_) => Some(NodeNo(place as u32)),
+            None => None,
+        }
+    }
+
     // Removes the node at a place, if there is one.
     fn clear_place<L: Ledger>(&mut self, place: usize, steps: &mut Steps<L>) -> Result<(), Memory>
         requires { is_open self.old ≡ true }
@@ -325,14 +334,9 @@ impl QcArena {
             → map.get self.new.now q ≡ map.get self.old.now q) }
         ensures frame { frame self.new ≡ frame self.old }
     {
-        // So many nodes don't fit in memory.
-        if place > u32::MAX as usize {
-            return Err(AllocError);
-        }
-        let node = NodeNo(place as u32);
-        if !self.has(node) {
+        let Some(node) = self.node_at(place) else {
             return Ok(());
-        }
+        };
         match self.touch(node, steps) {
             Ok(()) => {
                 self.kill(node, steps);
@@ -496,27 +500,18 @@ impl QcArena {
         changed(alloc, &self.nodes, &self.parts, &self.images, false)
     }
 
-    /// A number that is larger than each node's number. It is refused if it exceeds 4,294,967,295.
-    /// Nodes that were removed earlier may have had larger numbers than the present ones, so the
-    /// size of the tree is no bound for it.
-    pub fn numbers(&self) -> Result<u32, Memory>
-        ensures { IfOk result (λ numbers. (q : ℕ) → numbers ≤ q → map.get self.now.now q ≡ None) }
+    /// The numbers of all classes, rising. Takes a step for each node, and passes over numbers
+    /// that no node has now.
+    pub fn class_numbers<L: Ledger>(
+        &self,
+        alloc: Global,
+        steps: &mut Steps<L>,
+    ) -> Result<Vec<NodeNo>, Memory>
+        ensures numbers { IfOk result (λ numbers. AreClassNumbers (class_now self.now)
+            numbers.items) }
+        ensures steps { steps.new ≤ steps.old + map.len self.now.now }
     {
-        let places = self.places();
-        if places > u32::MAX as usize {
-            return Err(AllocError);
-        }
-        Ok(places as u32)
-    }
-
-    /// The aggregate of the node with a number. None if there is no such node, or if it is no
-    /// class.
-    pub fn class_at<L: Ledger>(&self, number: u32, steps: &mut Steps<L>) -> Option<Agg>
-        ensures value { option_map agg_in result ≡ class_now self.now number }
-        ensures steps { steps.new ≡ steps.old + 1 }
-    {
-        steps.tick();
-        class_in_place(&self.nodes, &self.parts, number)
+        numbers_of_classes(alloc, &self.nodes, self.kept.classes, steps)
     }
 
     /// The number of the node without values. None if there are no nodes. It is stored, as the

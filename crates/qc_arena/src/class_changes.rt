@@ -21,12 +21,8 @@ use cell_core::NodeNo;
 use slab::Slab;
 use std::alloc::Global;
 
-/// The class of a place, if it has one.
-pub(crate) fn class_in_place(
-    nodes: &Slab<NodeSlot>,
-    parts: &MeasureColumns,
-    place: u32,
-) -> Option<Agg>
+// The class of a place, if it has one.
+fn class_in_place(nodes: &Slab<NodeSlot>, parts: &MeasureColumns, place: u32) -> Option<Agg>
     requires { IsStored nodes.now parts.now }
     ensures { option_map agg_in result ≡ class_in (join (slots.get nodes.now place)) }
 {

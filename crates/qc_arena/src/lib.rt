@@ -3,6 +3,7 @@
 
 mod arena;
 mod class_changes;
+mod class_numbers;
 mod counted;
 mod edges;
 mod image;

@@ -14,9 +14,6 @@ use std::marker::Model;
 /// No run begins here, since each number is smaller.
 const NO_RUN: u64 = 4_294_967_296;
 
-/// So many numbers don't fit in memory.
-const MOST: usize = 4_611_686_018_427_387_904;
-
 /// Numbers of nodes, in the order in which they came. Most new nodes have the number after that of
 /// the node before. So the last numbers are stored as a run, from its first number up to its end,
 /// as long as each is one more than the one before. All numbers before the run are listed, and are
@@ -49,13 +46,9 @@ fn append_run(listed: &mut Vec<u32>, first: u64, end: u64) -> Result<(), Memory>
     requires rises { first ≤ end }
     requires small { end ≤ 4294967296 }
     ensures ok { OnOk result (listed.new.items ≡ listed.old.items ++ run first end) }
-    ensures few { OnOk result (length listed.new.items < 4611686018427387904) }
     ensures err { OnErr result (listed.new.items ≡ listed.old.items) }
 {
     let count = (end - first) as usize;
-    if listed.len() >= MOST - count {
-        return Err(AllocError);
-    }
     match listed.reserve(count) {
         Ok(()) => {}
         Err(error) => return Err(error),
@@ -83,9 +76,6 @@ impl NumberList {
         ensures none { IfOk result (λ n. n.items ≡ []) }
         ensures room { IfOk result (λ n. room ≤ n.capacity) }
     {
-        if room > MOST {
-            return Err(AllocError);
-        }
         match Vec::with_capacity(alloc, room) {
             Ok(listed) => Ok(NumberList {
                 listed,
@@ -104,7 +94,7 @@ impl NumberList {
         ensures value { result ≡ length self.now.items }
         ensures few { result < 9223372036854775808 }
     {
-        self.listed.len() + (self.end - self.first) as usize
+        self.listed.as_slice().len() + (self.end - self.first) as usize
     }
 
     // The number at a place.

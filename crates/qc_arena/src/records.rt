@@ -12,7 +12,7 @@ ghost use Rattle.qc_arena.specs.Resized.{resized};
 ghost use Rattle.qc_arena.specs.RecordReaders.{edge_of, label_lt, number};
 
 use crate::Memory;
-use crate::edges::{Edges, PlainEdge, put, take, target_in};
+use crate::edges::{Edges, PlainEdge, count, put, take, target_in};
 use crate::label_path::LabelPath;
 use crate::nodes::Forced;
 use aggregates::Agg;
@@ -157,9 +157,9 @@ impl NodeRecord {
         ensures has { IfOk result (λ n. n.1 ≡ length self.new.node.edges) }
         ensures err { OnErr result (self.new ≡ self.old) }
     {
-        let had = self.edges.len() as u32;
+        let had = count(&self.edges);
         match put(&mut self.edges, edge) {
-            Ok(()) => Ok((had, self.edges.len() as u32)),
+            Ok(()) => Ok((had, count(&self.edges))),
             Err(error) => Err(error),
         }
     }
@@ -180,9 +180,9 @@ impl NodeRecord {
         ensures had { result.0 ≡ length self.old.node.edges }
         ensures has { result.1 ≡ length self.new.node.edges }
     {
-        let had = self.edges.len() as u32;
+        let had = count(&self.edges);
         take(&mut self.edges, dim, code);
-        (had, self.edges.len() as u32)
+        (had, count(&self.edges))
     }
 
     pub(crate) fn set_forced(&mut self, forced: Option<Forced>)
@@ -338,7 +338,7 @@ impl NodeRecord {
             → slice_get self.now.node.edges j ≡ Some f →
             label_lt e f ≡ true }
     {
-        self.edges.len() as u32
+        count(&self.edges)
     }
 
     pub(crate) fn edge_at(&self, k: u32) -> (u8, Code, NodeNo)

@@ -1,5 +1,5 @@
 // Totals of a tree, updated with each change.
-ghost use Rattle.std.specs.Prelude.{IsTrue, None, Some, if◌then◌else◌, true, ◌+◌, ◌<◌, ◌≡◌, ◌≤◌};
+ghost use Rattle.std.specs.Prelude.{None, Some, if◌then◌else◌, true, ◌+◌, ◌<◌, ◌≡◌, ◌≤◌};
 ghost use Rattle.qc_arena.specs.Counted.{root_after, root_without};
 
 use cell_core::{Code, NodeNo};
@@ -103,21 +103,15 @@ impl TreeTotals {
         }
     }
 
-    // Whether the edges of one more node can be counted. More edges wouldn't fit in memory.
-    pub(crate) fn has_room(self) -> bool
-        ensures { IsTrue result → self.edges + 4294967296 ≤ 18446744073709551615 }
-    {
-        self.edges <= u64::MAX - 4_294_967_296
-    }
-
-    // The totals after a node's number of edges changed.
+    // The totals after a node's number of edges changed. That number has 32 bits.
     pub(crate) fn with_edges(self, had: u32, has: u32) -> TreeTotals
         requires had { had ≤ self.edges }
-        requires room { self.edges + has < 18446744073709551616 + had }
+        requires room { self.edges < 18446744069414584320 }
         ensures root { result.root ≡ self.root }
         ensures nodes { result.nodes ≡ self.nodes }
         ensures classes { result.classes ≡ self.classes }
         ensures edges { result.edges + had ≡ self.edges + has }
+        ensures fits { has < 4294967296 }
     {
         TreeTotals {
             root: self.root,

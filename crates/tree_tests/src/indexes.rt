@@ -1,4 +1,4 @@
-ghost use Rattle.std.specs.Prelude.{All, IfOk, OnOk, nat_abs, ◌≡◌, ◌≤◌};
+ghost use Rattle.std.specs.Prelude.{All, IfOk, OnOk, length, nat_abs, ◌<◌, ◌≡◌, ◌≤◌};
 ghost use Rattle.aggregates.specs.Views.{IsThere};
 
 use aggregates::{Agg, AggKind, read_fraction};
@@ -41,6 +41,7 @@ fn change(
 fn filled(alloc: Global, kinds: &[AggKind], add: &[(u32, i64)]) -> Result<Index, Memory>
     requires kinds { All (IsThere 1) kinds.now }
     requires add { All (λ class. nat_abs class.1 ≤ MAX_AMOUNT) add.now }
+    requires few { length add.now < 4294967296 }
 {
     let mut filling = IndexBuilder::new(alloc, kinds, &[2], add.len())?;
     'told: for k in 0..add.len() {

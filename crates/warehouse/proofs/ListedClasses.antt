@@ -1,8 +1,11 @@
--- The classes of a tree, as its numbers or its nodes are gone through.
-use Rattle.std.proofs.Common.{◌≡◌, ◌≢◌, ◌⊎◌, ◌∙◌, ℕ, ◌+◌, ◌<◌, ◌≤◌, Bool, true, false, Option, Some, None, List, [], ◌∷◌, ◌++◌, length}
-use Rattle.std.proofs.Common.{take, slice_get, nat_lt, refl, sym, ap, subst, arith, inl, inr, ltb-true, ltb-false}
+-- The classes of a tree, as nodes are gone through.
+use Rattle.std.proofs.Common.{◌≡◌, ◌≢◌, ◌⊎◌, ◌∙◌, ℕ, ◌+◌, ◌<◌, ◌≤◌, false, Option, Some, None, List, [], ◌∷◌, ◌++◌, length}
+use Rattle.std.proofs.Common.{take, get_or, nat_cmp, slice_get, is_some, nat_eq, eqb-true, refl, suc, sym, ap, subst, arith, inl, inr}
 use Rattle.std.specs.Option.{option_map}
-use Rattle.std.specs.List.{take-map}
+use Rattle.std.specs.List.{All, AllByRecursion, IsDistinct, sum_by, take-map}
+use Rattle.std.proofs.lemmas.Bool.{false_from_ne_true}
+use Rattle.std.proofs.lemmas.List.{length-append, length-map}
+use Rattle.std.proofs.lemmas.List.Sums.{sum_by-append, sum_by-cons}
 use Rattle.std.specs.Prelude.{IsSome, MatchOption}
 use Rattle.std.proofs.lemmas.Option.{slice_get-map, slice_get_within}
 use Rattle.std.specs.FinMap as finmap
@@ -12,15 +15,19 @@ use Rattle.cell_core.specs.declared.cell.NodeNo.{NodeNo}
 use Rattle.cube_defs.specs.Rows as defs
 use Rattle.cube_defs.specs.Tree.{Tree}
 use Rattle.cube_laws.specs.Lists.{Among}
-use Rattle.cube_laws.proofs.CallerLemmas.{among_append, take_all}
+use Rattle.cube_laws.proofs.CallerLemmas.{among_append, get_among, map_among, take_all}
 use Rattle.iceberg_query.specs.Subtree.{numbers}
 use Rattle.iceberg_query.proofs.CallerLemmas.{each_once}
 use Rattle.measure_index.specs.Builder.{AreKeysOf, GatheredKeys}
-use Rattle.qc_arena.specs.Changes.{AreNew, class_in}
+use Rattle.measure_index.specs.ColumnKeys.{IsKey}
+use Rattle.std.proofs.lemmas.Slice.Zip.{AllZip-long}
+use Rattle.tree_laws.specs.Counts.{classes_in}
+use Rattle.qc_arena.specs.Changes.{AreClassNumbers, AreNew, class_in}
+use Rattle.qc_arena.specs.RecordReaders.{number}
 use Rattle.qc_arena.specs.Map.{Known}
 use Rattle.qc_arena.proofs.CallerLemmas.{pushed, pushed_new, pushed_old}
-use Rattle.warehouse.specs.NodeLists.{AreNodesOf}
-use Rattle.warehouse.proofs.NodeLists.{not_before, numbers_push, taken_next}
+use Rattle.warehouse.specs.NodeLists.{AreNodesOf, ListsClasses}
+use Rattle.warehouse.proofs.NodeLists.{classes_within, few_there, mark_of, not_before, numbers_push, taken_next}
 
 -- the pairs of the classes whose numbers were seen
 pub record AreListed (class : ℕ → Option defs.Agg) (IsSeen : ℕ → Type 0) (pairs : List (NodeNo × Agg)) : Type 0 where
@@ -30,6 +37,10 @@ pub record AreListed (class : ℕ → Option defs.Agg) (IsSeen : ℕ → Type 0)
       × (slice_get pairs i ≡ Some x) × (x.0.0 ≡ q)
   pub once : (i j : ℕ) (x y : NodeNo × Agg) → i < j → slice_get pairs i ≡ Some x → slice_get pairs j ≡ Some y
       → x.0.0 ≢ y.0.0
+
+-- how many of some nodes are classes
+abbrev pub marks_of : Tree ℕ → List NodeNo → ℕ
+marks_of tree nodes = sum_by (λ k. mark_of (class_in (finmap.get tree k))) (numbers nodes)
 
 -- a number is seen that was not seen before
 pub record IsNext (IsSeen IsSeen' : ℕ → Type 0) (n : ℕ) : Type 0 where
@@ -96,15 +107,29 @@ module _ (class : ℕ → Option defs.Agg) where
         own = (record { 0 = n }, agg)
 
     -- the classes seen before, and that of the number
-    pub next_class : (filling then : List GatheredKeys) → (pairs : List (NodeNo × Agg)) × AreKeysOf pairs filling
-        × AreListed class IsSeen pairs → (o : Option Agg) → option_map agg_in o ≡ class n
+    pub next_class : (filling then : List GatheredKeys) (count : ℕ) → (pairs : List (NodeNo × Agg))
+        × AreKeysOf pairs filling × AreListed class IsSeen pairs × (length pairs ≡ count) → (o : Option Agg)
+        → option_map agg_in o ≡ class n
         → MatchOption o (then ≡ filling) (λ a. (before : List (NodeNo × Agg)) → AreKeysOf before filling
         → AreKeysOf (before ++ (record { 0 = n }, a) ∷ []) then)
         → (pairs : List (NodeNo × Agg)) × AreKeysOf pairs then × AreListed class IsSeen' pairs
-    next_class filling then was None e same
-        = (was.0, subst (AreKeysOf was.0) (sym same) was.1, listed_same was.0 was.2 (sym e))
-    next_class filling then was (Some a) e more
-        = (was.0 ++ (record { 0 = n }, a) ∷ [], more was.0 was.1, listed_more was.0 a was.2 (sym e))
+        × (length pairs ≡ count + mark_of (class n))
+    next_class filling then count was None e same =
+        let none = ap mark_of e in (
+          was.0,
+          subst (AreKeysOf was.0) (sym same) was.1,
+          listed_same was.0 was.2 (sym e),
+          omega (arith, was.3, none),
+        )
+    next_class filling then count was (Some a) e more =
+        let own : NodeNo × Agg = (record { 0 = n }, a) in
+        let one = ap mark_of e in
+        let longer = length-append was.0 (own ∷ []) in (
+          was.0 ++ own ∷ [],
+          more was.0 was.1,
+          listed_more was.0 a was.2 (sym e),
+          omega (arith, was.3, one, longer),
+        )
 
   -- where no other number has a class, all are listed
   pub all_listed : (IsSeen : ℕ → Type 0) (pairs : List (NodeNo × Agg)) → AreListed class IsSeen pairs
@@ -116,34 +141,6 @@ module _ (class : ℕ → Option defs.Agg) where
     once = was.once;
   }
 
--- the numbers less than one
-abbrev pub IsLess : ℕ → ℕ → Type 0
-IsLess n q = q < n
-
-pub none_less : (q : ℕ) → IsLess 0 q → ⊥
-none_less q l = omega (arith, l)
-
-pub next_less : (n : ℕ) → IsNext (IsLess n) (IsLess (n + 1)) n
-next_less n = record {
-  new = λ l. omega (arith, l);
-  old = λ q l. omega (arith, l);
-  only = λ q l. by q l (nat_lt q n) refl;
-  here = omega arith;
-}
-  where
-    by : (q : ℕ) → q < n + 1 → (b : Bool) → nat_lt q n ≡ b → (q < n) ⊎ (q ≡ n)
-    by q l true b = inl (ltb-true _ _ b)
-    by q l false b = let m : n ≤ q = ltb-false _ _ b in inr (omega (arith, l, m))
-
--- no class has a greater number
-pub whole_less : (class : ℕ → Option defs.Agg) (n : ℕ) → ((q : ℕ) → n ≤ q → class q ≡ None)
-    → (q : ℕ) (a : defs.Agg) → class q ≡ Some a → IsLess n q
-whole_less class n none q a e = by (nat_lt q n) refl
-  where
-    by : (b : Bool) → nat_lt q n ≡ b → q < n
-    by true b = ltb-true _ _ b
-    by false b = let bad : None ≡ Some a = sym (none q (ltb-false _ _ b)) ∙ e in absurd (cc bad)
-
 -- the first so many nodes of a list
 abbrev pub IsBefore : List NodeNo → ℕ → ℕ → Type 0
 IsBefore nodes place q = Among q (numbers (take place nodes))
@@ -151,7 +148,7 @@ IsBefore nodes place q = Among q (numbers (take place nodes))
 pub none_before : (nodes : List NodeNo) (q : ℕ) → IsBefore nodes 0 q → ⊥
 none_before nodes q m = m
 
-pub next_before : (tree : Tree ℕ) (nodes : List NodeNo) (place : ℕ) (x : NodeNo) → AreNodesOf tree (numbers nodes)
+pub next_before : (tree : Tree ℕ) (nodes : List NodeNo) (place : ℕ) (x : NodeNo) → ListsClasses tree (numbers nodes)
     → slice_get nodes place ≡ Some x → IsNext (IsBefore nodes place) (IsBefore nodes (place + 1)) x.0
 next_before tree nodes place x are at = record {
   new = λ m. not_before (numbers nodes) place x.0 (each_once (numbers nodes) are.once)
@@ -170,12 +167,91 @@ next_before tree nodes place x are at = record {
     longer = ap numbers (taken_next nodes place x at) ∙ numbers_push (take place nodes) x
 
 -- each class is that of a listed node
-pub whole_before : (tree : Tree ℕ) (nodes : List NodeNo) (place : ℕ) → AreNodesOf tree (numbers nodes)
+pub whole_before : (tree : Tree ℕ) (nodes : List NodeNo) (place : ℕ) → ListsClasses tree (numbers nodes)
     → length nodes ≤ place → (q : ℕ) (a : defs.Agg) → class_in (finmap.get tree q) ≡ Some a → IsBefore nodes place q
 whole_before tree nodes place are all q a e
     = subst (λ (ns : List NodeNo). Among q (numbers ns)) (sym (take_all nodes place all))
-    (are.all q (some (finmap.get tree q) e))
+    (are.all q (ap is_some e))
+
+-- a list of all nodes has each class
+pub from_nodes : (tree : Tree ℕ) (ks : List ℕ) → AreNodesOf tree ks → ListsClasses tree ks
+from_nodes tree ks are = record {
+  once = are.once;
+  there = are.there;
+  all = λ k h. are.all k (there (finmap.get tree k) h);
+}
   where
-    some : (o : Option Known) → class_in o ≡ Some a → IsSome o
-    some None h = absurd (cc h)
-    some (Some n) h = refl
+    there : (o : Option Known) → IsSome (class_in o) → IsSome o
+    there None h = h
+    there (Some n) h = refl
+
+-- what holds of each item holds of each number
+listed_there : (P : ℕ → Type 0) (xs : List NodeNo) → ((i : ℕ) (x : NodeNo) → slice_get xs i ≡ Some x → P x.0) → (k : ℕ)
+    → Among k (numbers xs) → P k
+listed_there P [] h k m = absurd m
+listed_there P (x ∷ xs) h k (inl e) = subst P (sym e) (h 0 x refl)
+listed_there P (x ∷ xs) h k (inr m) = listed_there P xs (λ i y e. h (suc i) y e) k m
+
+apart_later : (x : ℕ) (xs : List NodeNo) → ((j : ℕ) (y : NodeNo) → slice_get xs j ≡ Some y → x < y.0)
+    → AllByRecursion (λ y. nat_eq x y ≡ false) (numbers xs)
+apart_later x [] h = tt
+apart_later x (y ∷ xs) h = (
+  (let less = h 0 y refl in
+      false_from_ne_true _ (λ e. let same = eqb-true x y.0 e in omega (arith, less, same))),
+  apart_later x xs (λ j z e. h (suc j) z e),
+)
+
+-- numbers that rise are distinct
+rising_once : (xs : List NodeNo)
+    → ((i j : ℕ) (x y : NodeNo) → i < j → slice_get xs i ≡ Some x → slice_get xs j ≡ Some y → x.0 < y.0)
+    → IsDistinct nat_eq (numbers xs)
+unfolding IsDistinct
+rising_once [] h = tt
+rising_once (x ∷ xs) h = (
+  apart_later x.0 xs (λ j y e. h 0 (suc j) x y (omega arith) refl e),
+  rising_once xs (λ i j y z l e f. h (suc i) (suc j) y z (omega (arith, l)) e f),
+)
+
+-- and so has a list of the classes
+pub from_classes : (tree : Tree ℕ) (nodes : List NodeNo)
+    → AreClassNumbers (λ q. class_in (finmap.get tree q)) nodes → ListsClasses tree (numbers nodes)
+from_classes tree nodes are = record {
+  once = rising_once nodes are.rise;
+  there = listed_there (λ q. IsSome (finmap.get tree q)) nodes
+      (λ i x e. there (finmap.get tree x.0) (are.there i x e));
+  all = λ k h. let at = are.all k h in map_among number (record { 0 = k }) nodes (get_among nodes at.0 _ at.1);
+}
+  where
+    there : (o : Option Known) → IsSome (class_in o) → IsSome o
+    there None h = h
+    there (Some n) h = refl
+
+-- numbers with each class are no more than the nodes
+pub lists_few : (tree : Tree ℕ) (nodes : List NodeNo) → ListsClasses tree (numbers nodes)
+    → length nodes ≤ finmap.len tree
+lists_few tree nodes are =
+    let few = few_there tree (numbers nodes) (each_once (numbers nodes) are.once) are.there in
+    let long = length-map nodes number in
+    omega (arith, few, long)
+
+-- one node more of the first so many
+pub marks_next : (tree : Tree ℕ) (nodes : List NodeNo) (place : ℕ) (x : NodeNo) → slice_get nodes place ≡ Some x
+    → marks_of tree (take (place + 1) nodes) ≡ marks_of tree (take place nodes) + mark_of (class_in (finmap.get tree x.0))
+marks_next tree nodes place x at =
+    let mark : ℕ → ℕ = λ k. mark_of (class_in (finmap.get tree k)) in
+    let longer = ap (λ (ns : List NodeNo). sum_by mark (numbers ns)) (taken_next nodes place x at)
+    ∙ ap (sum_by mark) (numbers_push (take place nodes) x)
+    ∙ sum_by-append mark (numbers (take place nodes)) (x.0 ∷ []) in
+    let one = sum_by-cons mark x.0 [] in
+    omega (arith, longer, one)
+
+-- keys of no more classes than a tree has
+pub keys_few : (tree : Tree ℕ) (nodes : List NodeNo) (place : ℕ) (filling : List GatheredKeys) (pairs : List (NodeNo × Agg))
+    → ListsClasses tree (numbers nodes) → length nodes ≤ place → AreKeysOf pairs filling
+    → length pairs ≡ marks_of tree (take place nodes) → classes_in nat_cmp tree < 4294967296
+    → All (λ (c : GatheredKeys). length c.keys < 4294967296) filling
+keys_few tree nodes place filling pairs are all keys len few = λ k d l.
+    let long = AllZip-long (IsKey (get_or filling k d).kind) pairs (get_or filling k d).keys (keys k d l) in
+    let whole = len ∙ ap (marks_of tree) (take_all nodes place all) in
+    let most = classes_within tree (numbers nodes) (each_once (numbers nodes) are.once) are.there in
+    omega (arith, long, whole, most, few)

@@ -15,16 +15,18 @@ use Rattle.std.proofs.lemmas.List.{append-nil, append_assoc, map-append, length-
 use Rattle.std.proofs.lemmas.List.Sums.{sum_by-append, sum_by-cons}
 use Rattle.cell_core.specs.declared.cell.NodeNo.{NodeNo}
 use Rattle.cube_defs.specs.Cell.{cell_prefix}
+use Rattle.cube_defs.specs.Rows as defs
 use Rattle.cube_defs.specs.Tree.{Edge, Tree, cell_at}
+use Rattle.tree_laws.specs.Counts.{classes_in}
 use Rattle.cube_laws.specs.Lists.{Among}
 use Rattle.cube_laws.proofs.CallerLemmas.{all_append, cell_prefix_zero, code_equality, get_among}
 use Rattle.cube_laws.proofs.CallerLemmas.{map_among, take_all}
 use Rattle.iceberg_query.specs.Subtree as seen
 use Rattle.iceberg_query.specs.Subtree.{is_child, subtree}
 use Rattle.iceberg_query.proofs.CallerLemmas.{all_below, below_begins, below_more, below_once, each_once, from_edge}
+use Rattle.qc_arena.specs.Changes.{class_in}
 use Rattle.qc_arena.specs.Map.{Known, edges_in}
 use Rattle.qc_arena.specs.RecordReaders.{number, record_at, record_or}
-use Rattle.tree_laws.specs.Counts.{classes_in}
 use Rattle.tree_laws.proofs.CallerLemmas.{EachOnce, entry_get, get_entry, node_prefixes, some_same, sum_alike, sum_by-map, sum_ones}
 use Rattle.tree_laws.proofs.CallerLemmas.{sum_within, there}
 use Rattle.tree_search.specs.Found.{IsTree}
@@ -63,6 +65,11 @@ taken_next {X} xs i x e = let next : i + 1 ≡ suc i = omega arith in ap (λ n. 
 
 pub numbers_push : (nodes : List NodeNo) (x : NodeNo) → seen.numbers (nodes ++ x ∷ []) ≡ seen.numbers nodes ++ x.0 ∷ []
 numbers_push nodes x = map-append number nodes (x ∷ [])
+
+-- 1 for a class, else 0
+abbrev pub mark_of : Option defs.Agg → ℕ
+mark_of None = 0
+mark_of (Some a) = 1
 
 module _ (tree : Tree ℕ) where
   record_is : (k : ℕ) (n : Known) → numbers.get tree k ≡ Some n → record_at tree k ≡ n
@@ -107,6 +114,24 @@ module _ (tree : Tree ℕ) where
       (numbers.entries tree)
       (λ e m. ap (λ (n : Known). cond (is_some n.class) 1 0) (record_is e.0 e.1 (entry_get tree e m)))
       ∙ sym (sum_by-map (λ (n : Known). cond (is_some n.class) 1 0) (λ (e : ℕ × Known). e.1) (numbers.entries tree))
+
+  -- of different numbers no more have a class than there are classes
+  pub classes_within : (listed : List ℕ) → EachOnce listed → ((k : ℕ) → Among k listed → IsSome (numbers.get tree k))
+      → sum_by (λ k. mark_of (class_in (numbers.get tree k))) listed ≤ classes_in nat_cmp tree
+  unfolding keys
+  classes_within listed once are_there =
+      let mark : ℕ → ℕ = λ k. mark_of (class_in (numbers.get tree k)) in
+      let has : Known → ℕ = λ n. cond (is_some n.class) 1 0 in
+      let most = sum_within mark listed keys once (λ k m. key_there k (are_there k m)) in
+      let all = sum_by-map mark (λ (e : ℕ × Known). e.0) (numbers.entries tree)
+      ∙ sum_alike (λ (e : ℕ × Known). mark e.0) (λ (e : ℕ × Known). has e.1) (numbers.entries tree)
+      (λ e m. ap (λ (o : Option Known). mark_of (class_in o)) (entry_get tree e m) ∙ marked e.1.class)
+      ∙ sym (sum_by-map has (λ (e : ℕ × Known). e.1) (numbers.entries tree)) in
+      omega (arith, most, all)
+    where
+      marked : (o : Option defs.Agg) → mark_of o ≡ cond (is_some o) 1 0
+      marked None = refl
+      marked (Some a) = refl
 
   -- different numbers of nodes are no more than the nodes
   pub few_there : (listed : List ℕ) → EachOnce listed → ((k : ℕ) → Among k listed → IsSome (numbers.get tree k))

@@ -16,9 +16,9 @@ pub record IsLoad (building : Building) (s : State) (changes : List (Change Text
   pub none : s.rows ≡ []
   pub inserts : deleted changes ≡ []
 
--- the most steps to build a tree from no nodes and to index its classes
+-- the most steps to build a tree from no nodes, to list its classes and to index them
 abbrev pub cost_of_tree : ℕ → Tree ℕ → ℕ
-cost_of_tree dims tree = cost_of_building dims tree + finmap.len tree
+cost_of_tree dims tree = cost_of_building dims tree + 2 * finmap.len tree
 
 -- the most steps for a load, by the dimensions of the state after it, and the nodes and edges of the tree of its rows
 abbrev pub cost_of_load : State → ℕ

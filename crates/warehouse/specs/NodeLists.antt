@@ -6,6 +6,7 @@ use Rattle.cell_core.specs.declared.cell.NodeNo.{NodeNo}
 use Rattle.cube_defs.specs.Rows.{Agg}
 use Rattle.cube_defs.specs.Tree.{Tree}
 use Rattle.cube_laws.specs.Lists.{Among}
+use Rattle.qc_arena.specs.Changes.{class_in}
 use Rattle.qc_arena.specs.Map.{edges_in}
 use Rattle.qc_arena.specs.RecordReaders.{record_at}
 use Rattle.warehouse.specs.ClassMoves.{MovesClassTo}
@@ -15,6 +16,12 @@ pub record AreNodesOf (tree : Tree ℕ) (numbers : List ℕ) : Type 0 where
   pub once : IsDistinct nat_eq numbers
   pub there : (k : ℕ) → Among k numbers → IsSome (map.get tree k)
   pub all : (k : ℕ) → IsSome (map.get tree k) → Among k numbers
+
+-- numbers of nodes, each once, and each class among them
+pub record ListsClasses (tree : Tree ℕ) (numbers : List ℕ) : Type 0 where
+  pub once : IsDistinct nat_eq numbers
+  pub there : (k : ℕ) → Among k numbers → IsSome (map.get tree k)
+  pub all : (k : ℕ) → IsSome (class_in (map.get tree k)) → Among k numbers
 
 -- the steps at a node: one for the number of its edges, two for each edge
 abbrev pub visit_cost : Tree ℕ → ℕ → ℕ

@@ -1,7 +1,7 @@
 // Changes are made to rows and texts, all of them or none. The tree becomes that of the rows after
 // them: in place for a batch, from scratch for a base file.
 ghost use Rattle.std.specs.FinMap as finmap;
-ghost use Rattle.std.specs.Prelude.{Err, IfErr, IfOk, IfSome, None, Ok, OnErr, OnOk, Some, [], false, length, option_map, true, ◌+◌, ◌<◌, ◌∷◌, ◌≡◌, ◌≤◌};
+ghost use Rattle.std.specs.Prelude.{Err, IfErr, IfOk, IfSome, None, Ok, OnErr, OnOk, Some, [], false, length, option_map, true, ◌+◌, ◌*◌, ◌<◌, ◌∷◌, ◌≡◌, ◌≤◌};
 ghost use Rattle.base_table.specs.Places.{has_id, rows_of};
 ghost use Rattle.cell_core.specs.Gives.{Gives};
 ghost use Rattle.class_builder.specs.Costs.{cost_of_building};
@@ -332,7 +332,7 @@ fn make_index<L: Ledger>(
     ensures err { OnErr result (index.new ≡ index.old) }
     ensures steps { building ≡ Building.InPlace → steps.new ≡ steps.old }
     ensures scratch { building ≡ Building.FromScratch →
-        steps.new ≤ steps.old + finmap.len tree.now.now }
+        steps.new ≤ steps.old + 2 * finmap.len tree.now.now }
 {
     match building {
         Building::InPlace => change_index(schema, tree, index, alloc),

@@ -1,15 +1,16 @@
 // The index of the tree's classes: it is made for a schema, and changed with a batch.
 ghost use Rattle.std.specs.FinMap as finmap;
-ghost use Rattle.std.specs.Prelude.{All, IfOk, IfSome, List, MatchOption, OnErr, OnOk, [], false, length, map, option_map, take, true, ◌+◌, ◌++◌, ◌∷◌, ◌≡◌, ◌≤◌};
-ghost use Rattle.aggregates.specs.Views.{IsThere, agg_in};
+ghost use Rattle.std.specs.Prelude.{All, IfOk, IfSome, List, MatchOption, OnErr, OnOk, [], length, map, take, true, ◌+◌, ◌*◌, ◌++◌, ◌<◌, ◌∷◌, ◌≡◌, ◌≤◌};
+ghost use Rattle.aggregates.specs.Views.{IsThere};
 ghost use Rattle.aggregates.specs.declared.agg.Agg as aggs;
 ghost use Rattle.cell_core.specs.declared.cell.NodeNo as numbers;
 ghost use Rattle.measure_index.specs.Builder.{AreKeysOf, gathered_units};
-ghost use Rattle.qc_arena.specs.Changes.{class_now};
 ghost use Rattle.qc_arena.specs.Map.{is_open};
 ghost use Rattle.qc_schema.specs.Schema.{IsLayout};
 ghost use Rattle.iceberg_query.specs.Subtree.{numbers as numbers_of};
-ghost use Rattle.warehouse.specs.NodeLists.{AreNodesOf};
+ghost use Rattle.std.specs.Ordering.{nat_cmp};
+ghost use Rattle.tree_laws.specs.Counts.{classes_in};
+ghost use Rattle.warehouse.specs.NodeLists.{AreNodesOf, ListsClasses};
 ghost use Rattle.warehouse.specs.State.{IsIndexed, scale_in};
 ghost use Rattle.warehouse.specs.Stored.{IsTreeOfSome};
 
@@ -68,6 +69,7 @@ fn new_filling(alloc: Global, schema: &Schema, tree: &QcArena) -> Result<IndexBu
     ensures units { IfOk result (λ filling. gathered_units filling
         ≡ map (λ kind. (kind, scale_in schema.now kind)) schema.now.indexes) }
     ensures classes { IfOk result (AreKeysOf []) }
+    ensures few { classes_in nat_cmp tree.now.now < 4294967296 }
 {
     let all = scales(schema);
     let count = usize::from(schema.measures());
@@ -75,19 +77,35 @@ fn new_filling(alloc: Global, schema: &Schema, tree: &QcArena) -> Result<IndexBu
     IndexBuilder::new(alloc, schema.indexes(), &all[..count], room)
 }
 
-// The aggregate of the class with a number. A step is taken only where there is a node.
-fn class_of_number<L: Ledger>(tree: &QcArena, number: u32, steps: &mut Steps<L>) -> Option<Agg>
-    ensures value { option_map agg_in result ≡ class_now tree.now number }
-    ensures steps { steps.new ≤ steps.old + 1 }
-    ensures none { finmap.contains_key tree.now.now number ≡ false → steps.new ≡ steps.old }
+// The index of the classes of a tree. Each class is among the listed nodes.
+fn index_of_listed<L: Ledger>(
+    alloc: Global,
+    schema: &Schema,
+    tree: &QcArena,
+    nodes: &Vec<NodeNo>,
+    steps: &mut Steps<L>,
+) -> Result<Index, Memory>
+    requires layout { IsLayout schema.now }
+    requires tree { IsTreeOfSome schema.now tree.now.now }
+    requires nodes { ListsClasses tree.now.now (numbers_of nodes.now.items) }
+    ensures index { IfOk result (λ index. IsIndexed schema.now tree.now.now index) }
+    ensures steps { steps.new ≤ steps.old + length nodes.now.items }
 {
-    if !tree.has(NodeNo(number)) {
-        return None;
+    let mut filling = match new_filling(alloc, schema, tree) {
+        Ok(filling) => filling,
+        Err(error) => return Err(error),
+    };
+    'places: for place in 0..nodes.len() {
+        let node = nodes[place];
+        match push_class(&mut filling, node.0, &tree.class(node, steps)) {
+            Ok(()) => {}
+            Err(error) => return Err(error),
+        }
     }
-    tree.class_at(number, steps)
+    filling.finish()
 }
 
-// The index of the tree's classes, found at all numbers. Numbers without a node are passed over.
+// The index of the tree's classes, whose numbers are listed first.
 fn filled_index<L: Ledger>(
     alloc: Global,
     schema: &Schema,
@@ -97,14 +115,13 @@ fn filled_index<L: Ledger>(
     requires layout { IsLayout schema.now }
     requires tree { IsTreeOfSome schema.now tree.now.now }
     ensures index { IfOk result (λ index. IsIndexed schema.now tree.now.now index) }
-    ensures steps { steps.new ≤ steps.old + finmap.len tree.now.now }
+    ensures steps { steps.new ≤ steps.old + 2 * finmap.len tree.now.now }
 {
-    let mut filling = new_filling(alloc, schema, tree)?;
-    let numbers = tree.numbers()?;
-    'numbers: for number in 0..numbers {
-        push_class(&mut filling, number, &class_of_number(tree, number, steps))?;
-    }
-    filling.finish()
+    let numbers = match tree.class_numbers(alloc, steps) {
+        Ok(numbers) => numbers,
+        Err(error) => return Err(error),
+    };
+    index_of_listed(alloc, schema, tree, &numbers, steps)
 }
 
 /// The index of the classes of a tree whose nodes are listed.
@@ -121,18 +138,7 @@ pub(crate) fn listed_index<L: Ledger>(
     ensures index { IfOk result (λ index. IsIndexed schema.now tree.now.now index) }
     ensures steps { steps.new ≤ steps.old + length nodes.now.items }
 {
-    let mut filling = match new_filling(alloc, schema, tree) {
-        Ok(filling) => filling,
-        Err(error) => return Err(error),
-    };
-    'places: for place in 0..nodes.len() {
-        let node = nodes[place];
-        match push_class(&mut filling, node.0, &tree.class(node, steps)) {
-            Ok(()) => {}
-            Err(error) => return Err(error),
-        }
-    }
-    filling.finish()
+    index_of_listed(alloc, schema, tree, nodes, steps)
 }
 
 /// Changes the index of the tree at the begin of the batch into that of the present tree, which was
@@ -152,7 +158,7 @@ pub(crate) fn build_index<L: Ledger>(
     requires now { IsTreeOfSome schema.now tree.now.now }
     ensures indexed { OnOk result (IsIndexed schema.now tree.now.now index.new) }
     ensures err { OnErr result (index.new ≡ index.old) }
-    ensures steps { steps.new ≤ steps.old + finmap.len tree.now.now }
+    ensures steps { steps.new ≤ steps.old + 2 * finmap.len tree.now.now }
 {
     if schema.indexes().is_empty() {
         return Ok(());

@@ -4,6 +4,7 @@ use Rattle.std.proofs.lemmas.List.Sorted.{list_any-IsPermutation}
 use Rattle.std.proofs.lemmas.Result.{IfOk-weaker}
 use Rattle.std.specs.BTreeSet.{IsFromIterResult}
 use Rattle.measure_index.proofs.KeyLemmas.{any_turned}
+use Rattle.measure_index.proofs.SetSizes.{size_within}
 use Rattle.measure_index.proofs.keys.set_of.Goals as goal
 
 pub returns-clause-has : goal.returns-clause-has
@@ -19,3 +20,7 @@ returns-clause-has g c =
 
 pub returns-clause-ordered : goal.returns-clause-ordered
 returns-clause-ordered g c = IfOk-weaker c.from_iter.result _ _ (λ s h. h.4.1) c.from_iter.ensures.ran
+
+pub returns-clause-few : goal.returns-clause-few
+returns-clause-few g c = size_within g.met.K.Ord.total c.from_iter.result c.args.items.items (returns-clause-has g c)
+    (returns-clause-ordered g c)

@@ -1,5 +1,5 @@
 use Rattle.std.proofs.Common.{◌∙◌, ◌++◌, ◌∷◌, [], ℕ, List, ap, arith, length, length-append, sym}
-use Rattle.qc_arena.proofs.Runs.{long, push_run}
+use Rattle.qc_arena.proofs.Runs.{push_run}
 use Rattle.qc_arena.proofs.number_list.append_run.Goals as goal
 
 pub numbers-preserved : goal.numbers-preserved
@@ -18,16 +18,3 @@ numbers-preserved c =
         c.push_reserved.ensures.capacity,
       );
     }
-
-pub returns-clause-few : goal.returns-clause-few
-returns-clause-few c = omega (
-  arith,
-  ap length c.numbers.invariant.items,
-  long c.args.listed.now.items c.args.first c.numbers.number,
-  c.numbers.auto.number-end,
-  c.if-len-count.false,
-  c.len.ensures,
-  c.args.listed.now.ok.0,
-  c.requires.rises,
-  c.requires.small,
-)

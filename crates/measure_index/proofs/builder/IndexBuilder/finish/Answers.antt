@@ -1,15 +1,28 @@
-use Rattle.std.proofs.Common.{[], ap, length, subst, sym, ◌++◌, ◌∷◌, ◌≡◌, ◌∙◌, rules}
-use Rattle.std.specs.List.{AllZip}
+use Rattle.std.proofs.Common.{[], ap, length, subst, sym, ◌++◌, ◌∷◌, ◌<◌, ◌≡◌, ◌∙◌, rules}
+use Rattle.std.specs.List.{All, AllZip}
 use Rattle.std.specs.Vec.Iter.{into_iter_items, into_iter_len}
 use Rattle.std.proofs.lemmas.List.{map-id}
 use Rattle.std.proofs.lemmas.Iterator.Adapters.{YieldsList-from_vec}
-use Rattle.std.proofs.lemmas.Iterator.Consumers.{YieldsList-end}
-use Rattle.measure_index.specs.Builder.{IsRankingOf, gathered_units}
+use Rattle.std.proofs.lemmas.Iterator.Consumers.{YieldsList-end, YieldsList-turn}
+use Rattle.measure_index.specs.Builder.{GatheredKeys, IsRankingOf, gathered_units}
 use Rattle.measure_index.specs.Index.{units}
 use Rattle.measure_index.specs.Rankings.{IsIndex}
 use Rattle.measure_index.proofs.FillingLemmas.{ranked_index, ranked_units}
 use Rattle.measure_index.proofs.Zips.{zip_more}
 use Rattle.measure_index.proofs.builder.IndexBuilder.finish.Goals as goal
+
+pub in_order-requires : goal.in_order-requires
+in_order-requires c =
+    let items : into_iter_items c.into_iter-keys-iterator.result ≡ c.self.inside.columns.items
+    = c.into_iter-keys-iterator.ensures.into_iter_gives.0 in
+    let len : into_iter_len c.into_iter-keys-iterator.result ≡ length c.self.inside.columns.items = search rules in
+    let turn = YieldsList-turn
+    (YieldsList-from_vec {s = c.into_iter-keys-iterator.result} c.self.inside.columns.items items len)
+    c.kinds.yielded c.kinds.keys-iterator c.kinds.yielded_by c.next.result c.next.new.self c.in-Some.keys c.in-Some.is
+    c.next.ensures.steps in
+    let few = subst (λ cs. All (λ (c : GatheredKeys). length c.keys < 4294967296) cs) (sym c.self.view_is) c.requires in
+    subst (λ (c : GatheredKeys). length c.keys < 4294967296) (sym turn.1)
+    (few (length c.kinds.yielded) c.in-Some.keys turn.0)
 
 pub kinds-preserved : goal.kinds-preserved
 kinds-preserved c =

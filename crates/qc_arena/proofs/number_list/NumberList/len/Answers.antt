@@ -8,8 +8,7 @@ returns-clause-value c =
     let m = c.self.inside in
     omega (
       arith,
-      c.len.ensures,
-      m.listed.ok.0,
+      ap length c.as_slice.ensures.value,
       ap (λ (n : Numbers). length n.items) c.self.view_is,
       long m.listed.items m.first m.end,
     )

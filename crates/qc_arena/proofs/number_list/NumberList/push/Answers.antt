@@ -23,7 +23,6 @@ invariant_of-self-then-number-self-2 c =
           (All-weaker (λ k. k < m.end) (λ k. k < n) (λ k l. omega (arith, l, c.if-number-self-2.true))
           (m.listed.items ++ run m.first m.end)
           (all_below m.listed.items m.first m.end c.self.invariant.rises c.self.invariant.before));
-      few = omega (arith, c.in-Ok.ensures.few);
     }
 
 pub invariant_of-self-2 : goal.invariant_of-self-2
@@ -37,11 +36,4 @@ invariant_of-self-2 c =
           (subst (λ (l : List ℕ). All (λ k. k < m.end) l) (sym c.in-Ok.ensures.ok)
           (all_below m.listed.items m.first m.end c.self.invariant.rises c.self.invariant.before))
           (omega (arith, c.if-number-self.false, c.if-number-self-2.false));
-      few = omega (
-        arith,
-        c.in-Ok.ensures.few,
-        c.push.ensures.upper_bound,
-        c.append_run.new.listed.ok.0,
-        c.push.new.self.ok.0,
-      );
     }

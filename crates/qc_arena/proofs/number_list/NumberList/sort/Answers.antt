@@ -1,4 +1,4 @@
-use Rattle.std.proofs.Common.{◌<◌, ◌++◌, arith, subst}
+use Rattle.std.proofs.Common.{◌<◌, ◌++◌, subst}
 use Rattle.std.specs.List.Sorted.{IsPermutation}
 use Rattle.std.proofs.lemmas.List.Sorted.{All-permutation, IsPermutation-append, IsPermutation-refl}
 use Rattle.qc_arena.specs.Numbers.{Numbers, run}
@@ -13,13 +13,6 @@ invariant_of-self c =
       small = c.self.invariant.small;
       before = All-permutation (λ n. n < m.first) m.listed.items c.sort_unstable.new.self.items
           c.sort_unstable.ensures.permutation c.self.invariant.before;
-      few = omega (
-        arith,
-        c.self.invariant.few,
-        c.sort_unstable.ensures.len,
-        m.listed.ok.0,
-        c.sort_unstable.new.self.ok.0,
-      );
     }
 
 pub returns-clause-permutation : goal.returns-clause-permutation

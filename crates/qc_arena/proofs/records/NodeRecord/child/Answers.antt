@@ -37,7 +37,6 @@ invariant_of-result c =
           (within_more c.self.inside.trail.items (c.args.dim, c.args.code) c.self.invariant.begun
           c.self.invariant.within (omega arith));
       rising = search rules;
-      few = search rules;
       small_edges = search rules;
     }
 

@@ -26,7 +26,6 @@ invariant_of-self c =
           (first_begun (c.args.dims, 0) trail);
       within = subst IsTrail (sym c.behind-self-inside.ensures) (within_first c.args.dims 0 trail is.within deep);
       rising = is.rising;
-      few = is.few;
       small_edges = is.small_edges;
     }
 
