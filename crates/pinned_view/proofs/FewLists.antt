@@ -38,7 +38,8 @@ few_from bits place first (next ∷ back) pins short is =
     by rest (inl read) =
         let more = mul-le-mul_left bits (count_read place pins read) in
         let k = below rest.doubled (finmap.len next + 2) bits rest.large short.1.0 in
-        let at : bits * suc (count_after (suc place) pins) ≡ bits * count_after (suc place) pins + bits = mul-suc bits (count_after (suc place) pins) in
+        let at : bits * suc (count_after (suc place) pins) ≡ bits * count_after (suc place) pins + bits
+        = mul-suc bits (count_after (suc place) pins) in
         record { doubled = 1; large = omega arith; few = omega (arith, rest.few, more, k, at) }
     by rest (inr none) =
         let more = mul-le-mul_left bits (count_later place pins) in

@@ -1,5 +1,6 @@
 -- What is stored for the versions after a change.
-use Rattle.std.proofs.Common.{◌≡◌, ℕ, ◌+◌, ◌*◌, ◌≤◌, sym, ap, ap₂, ◌∙◌, subst, false, true≢false, Option, Some, None, List, is_some, length, map, arith}
+use Rattle.std.proofs.Common.{◌≡◌, ℕ, ◌+◌, ◌*◌, ◌≤◌, sym, ap, ap₂, ◌∙◌, subst, false, true≢false, Option, Some, None, List, is_some}
+use Rattle.std.proofs.Common.{length, map, arith}
 use Rattle.std.specs.FinMap as finmap
 use Rattle.std.proofs.lemmas.List.{length-map}
 use Rattle.qc_arena.specs.Map.{ImageMap, Known}

@@ -1,5 +1,6 @@
 -- Which numbers have an image in a list, as images come and as two of them become one.
-use Rattle.std.proofs.Common.{◌≡◌, ◌∙◌, ℕ, ap, ap₂, refl, List, [], ◌∷◌, ◌++◌, Option, Some, None, arith, drop, length, length-append, length-drop, sym, suc, zero}
+use Rattle.std.proofs.Common.{◌≡◌, ◌∙◌, ℕ, ap, ap₂, refl, List, [], ◌∷◌, ◌++◌, Option, Some, None, arith, drop, length, length-append}
+use Rattle.std.proofs.Common.{length-drop, sym, suc, zero}
 use Rattle.std.specs.FinMap as map
 use Rattle.std.specs.Option.{option_or}
 use Rattle.qc_arena.specs.Map.{ImageMap}

@@ -106,7 +106,7 @@ module _ (held : Versions) (number : ℕ) (name : Text) where
       by None f false r e = rw (rows-of held.pins name, f, length-map held.pins pin_in, r, is, told) refl
 
   pub unpin-done : (new : Versions) (reply : List ℕ) → IsSome (version_of held.pins name)
-      → new ≡ record held { pins = without held.pins name } → reply ≡ unpinned_text number name
+      → new ≡ record held { pins = without held.pins name; stored = new.stored } → reply ≡ unpinned_text number name
       → unpin_answer (pinned_state_in held) number name ≡ record { state = pinned_state_in new; reply = reply }
   unpin-done new reply there is told = by (version_of held.pins name) refl there
     where

@@ -2,6 +2,7 @@
 ghost use Rattle.std.specs.Prelude.{Err, IfErr, IsErr, IfOk, IfSome, IsTrue, None, Ok, OnErr, OnOk, Some, length, option_map, true, ⊤, ◌≡◌, ◌≢◌, ◌≤◌, ◌+◌};
 ghost use Rattle.csv_load.specs.Files.{batch_in};
 ghost use Rattle.qc_io.specs.Outside.{Rose, FileContents};
+ghost use Rattle.pinned_view.specs.Versions.{ShowsSame};
 ghost use Rattle.query_script.specs.Commands.{IsQuestion, wants_memory};
 ghost use Rattle.query_script.specs.Lines.{may_want_memory};
 ghost use Rattle.query_script.specs.Questions.{question_in};
@@ -91,7 +92,7 @@ fn take_file<L: Ledger>(
         steps.old steps.new) }
     ensures unread { kind_in kind ≡ batches.Apply
         → IsErr (batch_in pinned.old.now.state.schema bytes.now) → steps.new ≡ steps.old }
-    ensures same { OnErr result (pinned.new ≡ pinned.old) }
+    ensures same { OnErr result (ShowsSame pinned.old pinned.new) }
 {
     match kind {
         FileUse::Load => pinned.load(bytes, steps),
@@ -122,7 +123,7 @@ fn file_reply<L: Ledger>(
     ensures steps { OnOk result
         (IsWithin (taken_bytes_cost (kind_in kind) pinned.old.now.state bytes.now)
         steps.old steps.new) }
-    ensures same { OnErr result (pinned.new ≡ pinned.old) }
+    ensures same { OnErr result (ShowsSame pinned.old pinned.new) }
 {
     match take_file(pinned, kind, bytes, steps) {
         Ok(taken) => Ok(applied_reply(number, taken.records, taken.classes)),
@@ -152,7 +153,7 @@ fn answer_file<F: Files, L: Ledger>(
     ensures later { F.faults files.old ≤ F.faults files.new }
     ensures told { F.told files.new ≡ F.told files.old }
     ensures steady { IsTrue (F.steady files.old) → IsTrue (F.steady files.new) }
-    ensures same { OnErr result (pinned.new ≡ pinned.old) }
+    ensures same { OnErr result (ShowsSame pinned.old pinned.new) }
     ensures fault { IfErr result (λ stop. MatchLineStop stop ⊤ (λ file. (file ≡ line.name)
         × Rose (F.faults files.old) (F.faults files.new))) }
     ensures untold { IfErr result (λ stop. MatchLineStop stop ⊤ (λ file. IsTrue (F.steady files.old)
@@ -245,7 +246,7 @@ fn answer_command<F: Files, L: Ledger>(
     ensures later { F.faults files.old ≤ F.faults files.new }
     ensures told { F.told files.new ≡ F.told files.old }
     ensures steady { IsTrue (F.steady files.old) → IsTrue (F.steady files.new) }
-    ensures same { OnErr result (pinned.new ≡ pinned.old) }
+    ensures same { OnErr result (ShowsSame pinned.old pinned.new) }
     ensures memory { IfErr result
         (λ stop. MatchLineStop stop (wants_memory (question_in command) ≡ true) (λ file. ⊤)) }
     ensures fault { IfErr result (λ stop. MatchLineStop stop ⊤
@@ -293,7 +294,7 @@ pub fn answer_line<F: Files, L: Ledger>(
     ensures later { F.faults files.old ≤ F.faults files.new }
     ensures told { F.told files.new ≡ F.told files.old }
     ensures steady { IsTrue (F.steady files.old) → IsTrue (F.steady files.new) }
-    ensures same { OnErr result (pinned.new ≡ pinned.old) }
+    ensures same { OnErr result (ShowsSame pinned.old pinned.new) }
     ensures skips { IfErr result (λ stop. MatchLineStop stop (may_want_memory line.now ≡ true)
         (λ file. file_of pinned.old.now.state.schema line.now ≡ Some file)) }
     ensures fault { IfErr result

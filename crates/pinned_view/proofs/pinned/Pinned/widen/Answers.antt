@@ -42,7 +42,8 @@ returns-clause-err g c =
           let same : c.widen.new.self ≡ c.self.inside.warehouse = λ j. let held : Contents
           = record { state = said.state j; tree = said.tree j; index = said.index j; images = images j } in held in
           rw w.result-is (ap (λ (held : Contents). let v : Versions
-          = record { now = held; pins = map version_in c.self.inside.pins.items; stored = c.self.inside.kept.items } in v) same ∙ c.self.view_is)
+          = record { now = held; pins = map version_in c.self.inside.pins.items; stored = c.self.inside.kept.items } in v) same
+          ∙ c.self.view_is)
     ]
 
 pub returns-clause-gives : goal.returns-clause-gives
