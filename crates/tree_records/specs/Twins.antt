@@ -1,9 +1,10 @@
 -- Two trees have the same records, whatever the numbers.
-use Rattle.std.specs.Prelude.{ℕ, ◌≡◌, Option, Some, IfSome, List, map, option_map, slice_get}
+use Rattle.std.specs.Prelude.{ℕ, ◌<◌, ◌≡◌, Option, Some, IfSome, List, map, option_map, slice_get}
 use Rattle.std.specs.FinMap as finmap
 use Rattle.cube_defs.specs.Tree.{Tree, renamed_edge}
 use Rattle.qc_arena.specs.Map.{AreRooted, Known}
 use Rattle.tree_records.specs.Lines.{IsSmall, line_at, line_of}
+use Rattle.tree_records.specs.declared.lines.TheConstants.{NUMBERS}
 
 -- in both trees each node's parent is there, and has the node's cell without the last value
 pub record AreBothRooted (one other : Tree ℕ) : Type 0 where
@@ -25,20 +26,20 @@ pub record AreAlike (one other : Tree ℕ) (n m : Known) : Type 0 where
 abbrev pub HasTwin : Tree ℕ → Tree ℕ → Known → Type 0
 HasTwin one other n = (l : ℕ) × (m : Known) × (finmap.get other l ≡ Some m) × AreAlike one other n m
 
--- each record of a tree is in the other
+-- each record of a tree under the first numbers is in the other
 abbrev pub HasTwins : Tree ℕ → Tree ℕ → Type 0
-HasTwins one other = (k : ℕ) (n : Known) → finmap.get one k ≡ Some n → HasTwin one other n
+HasTwins one other = (k : ℕ) (n : Known) → k < NUMBERS → finmap.get one k ≡ Some n → HasTwin one other n
 
--- each record of either is in the other, and there are as many
+-- each record of one tree under the first numbers is in the other, and both have as many
 pub record AreSame (one other : Tree ℕ) : Type 0 where
   pub here : HasTwins one other
-  pub back : HasTwins other one
   pub count : finmap.len one ≡ finmap.len other
 
--- a number has the line, if there is one, in a tree, where a node of another tree, of a small cell, has it
+-- a number has the line, if there is one, in a tree, where a node of another tree, of a small cell and under one of the
+-- first numbers, has it
 abbrev pub KeepsNumber : Option (List ℕ) → Tree ℕ → Tree ℕ → ℕ → Type 0
-KeepsNumber line other tree k = IfSome line (λ line. (l : ℕ) (n : Known) → finmap.get other l ≡ Some n → IsSmall n.cell
-    → line_of n.cell ≡ line → line_at tree k ≡ Some line)
+KeepsNumber line other tree k = IfSome line (λ line. (l : ℕ) (n : Known) → l < NUMBERS → finmap.get other l ≡ Some n
+    → IsSmall n.cell → line_of n.cell ≡ line → line_at tree k ≡ Some line)
 
 -- the same of each number of a list
 abbrev pub KeepsNumbers : List (Option (List ℕ)) → Tree ℕ → Tree ℕ → Type 0

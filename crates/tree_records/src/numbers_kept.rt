@@ -1,6 +1,6 @@
 // Whether nodes keep their numbers from one tree to another.
 ghost use Rattle.std.specs.FinMap as map;
-ghost use Rattle.std.specs.Prelude.{Some, false, true, ℕ, slice_get, ◌≡◌, ◌≢◌};
+ghost use Rattle.std.specs.Prelude.{Some, false, true, ℕ, slice_get, ◌<◌, ◌≡◌, ◌≢◌};
 ghost use Rattle.qc_arena.specs.Map.{AreRooted, Known};
 ghost use Rattle.tree_records.specs.Lines.{IsSmall, line_of};
 ghost use Rattle.tree_records.specs.Twins.{AreBothRooted, KeepsNumber, KeepsNumbers};
@@ -10,16 +10,13 @@ use cell_core::{NodeNo, Steps};
 use qc_arena::QcArena;
 use std::sync::ledger::Ledger;
 
-// Whether a node has this cell. It may answer that one has where there is no memory.
+// Whether a node whose number is below NUMBERS has this cell.
 fn has_cell<L: Ledger>(tree: &QcArena, cell: &Line, steps: &mut Steps<L>) -> bool
     ensures { AreRooted tree.now.now → result ≡ false →
-        (k : ℕ) (n : Known) → map.get tree.now.now k ≡ Some n → IsSmall n.cell
-        → line_of n.cell ≢ cell.now }
+        (k : ℕ) (n : Known) → k < NUMBERS → map.get tree.now.now k ≡ Some n
+        → IsSmall n.cell → line_of n.cell ≢ cell.now }
 {
-    let Ok(numbers) = tree.numbers() else {
-        return true;
-    };
-    'numbers: for number in 0..numbers {
+    'numbers: for number in 0..NUMBERS {
         if cell_at(tree, NodeNo(number), steps) == Some(*cell) {
             return true;
         }

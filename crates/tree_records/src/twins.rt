@@ -7,7 +7,7 @@ ghost use Rattle.qc_arena.specs.RecordReaders.{record_at};
 ghost use Rattle.tree_records.specs.Lines.{line_at};
 ghost use Rattle.tree_records.specs.Twins.{AreAlike, AreBothRooted, AreSame, HasTwin, HasTwins, HaveSameLine};
 
-use crate::lines::{ANY, Line, cell_at};
+use crate::lines::{ANY, Line, NUMBERS, cell_at};
 use aggregates::{Agg, Part};
 use cell_core::{NodeNo, Steps};
 use qc_arena::{Nodes, QcArena};
@@ -181,15 +181,12 @@ fn has_twin<L: Ledger>(one: &QcArena, node: NodeNo, other: &QcArena, steps: &mut
     other.has(twin) && is_record_same(one, node, other, twin, steps)
 }
 
-// The same of each node.
+// The same of each node whose number is below NUMBERS.
 fn has_twins<L: Ledger>(one: &QcArena, other: &QcArena, steps: &mut Steps<L>) -> bool
     ensures { AreBothRooted one.now.now other.now.now → result ≡ true →
         HasTwins one.now.now other.now.now }
 {
-    let Ok(numbers) = one.numbers() else {
-        return false;
-    };
-    'numbers: for number in 0..numbers {
+    'numbers: for number in 0..NUMBERS {
         if one.has(NodeNo(number)) && !has_twin(one, NodeNo(number), other, steps) {
             return false;
         }
@@ -197,14 +194,27 @@ fn has_twins<L: Ledger>(one: &QcArena, other: &QcArena, steps: &mut Steps<L>) ->
     true
 }
 
+// Whether all nodes have numbers below NUMBERS. No contract says so.
+fn has_small_numbers(tree: &QcArena) -> bool {
+    let mut found = 0u32;
+    'numbers: for number in 0..NUMBERS {
+        if tree.has(NodeNo(number)) {
+            found = found.wrapping_add(1);
+        }
+    }
+    found == tree.live()
+}
+
 /// Whether two trees have the same records, whatever the numbers. Nodes and forced children are
-/// compared by their cells, classes by their aggregates, and edges by their labels and targets.
+/// compared by their cells, classes by their aggregates, and edges by their labels and targets. Each
+/// node of the one has its record in the other, and both have as many. The contract speaks of nodes
+/// whose numbers are below NUMBERS. Where the one has others, the answer is no.
 pub fn are_same<L: Ledger>(one: &QcArena, other: &QcArena, steps: &mut Steps<L>) -> bool
     ensures { AreBothRooted one.now.now other.now.now → result ≡ true →
         AreSame one.now.now other.now.now }
 {
-    if one.live() != other.live() || !has_twins(one, other, steps) {
+    if !has_small_numbers(one) || one.live() != other.live() {
         return false;
     }
-    has_twins(other, one, steps)
+    has_twins(one, other, steps)
 }
