@@ -213,7 +213,10 @@ pub fn are_same<L: Ledger>(one: &QcArena, other: &QcArena, steps: &mut Steps<L>)
     ensures { AreBothRooted one.now.now other.now.now → result ≡ true →
         AreSame one.now.now other.now.now }
 {
-    if !has_small_numbers(one) || one.live() != other.live() {
+    if !has_small_numbers(one) {
+        return false;
+    }
+    if one.live() != other.live() {
         return false;
     }
     has_twins(one, other, steps)
