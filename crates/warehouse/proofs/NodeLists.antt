@@ -154,8 +154,8 @@ module _ (tree : Tree ℕ) where
         (sum_within (visit_cost tree) listed keys (each_once listed are.once) within)
 
     -- as many of them are classes as there are classes, at the most
-    classes_within : count_by is_class_in listed ≤ classes_in nat_cmp tree
-    classes_within = subst (λ n. count_by is_class_in listed ≤ n) all_classes
+    classes_listed : count_by is_class_in listed ≤ classes_in nat_cmp tree
+    classes_listed = subst (λ n. count_by is_class_in listed ≤ n) all_classes
         (sum_within (λ k. cond (is_class_in k) 1 0) listed keys (each_once listed are.once) within)
 
     -- there are no more numbers than nodes
@@ -169,7 +169,7 @@ module _ (tree : Tree ℕ) where
       → count_by (is_class_at tree) nodes ≤ classes_in nat_cmp tree
   unfolding is_class_in
   classes_few nodes are = subst (λ n. n ≤ classes_in nat_cmp tree)
-      (sum_by-map (λ k. cond (is_class_in k) 1 0) number nodes) (classes_within (seen.numbers nodes) are)
+      (sum_by-map (λ k. cond (is_class_in k) 1 0) number nodes) (classes_listed (seen.numbers nodes) are)
 
   -- on a walk: the descendants by the first so many edges of a node, and by one edge more
   module _ (k n : ℕ) where
