@@ -1,5 +1,5 @@
 -- The places from which pins read, and the least of them.
-use Rattle.std.proofs.Common.{◌≡◌, ◌⊎◌, ℕ, suc, ◌-◌, ◌<◌, ◌≤◌, refl, sym, ap, ◌∙◌, cond, List, [], ◌∷◌, ◌++◌, length, map, min}
+use Rattle.std.proofs.Common.{◌≡◌, ◌⊎◌, ℕ, suc, ◌+◌, ◌-◌, ◌<◌, ◌≤◌, refl, sym, ap, ◌∙◌, cond, List, [], ◌∷◌, ◌++◌, length, map, min}
 use Rattle.std.proofs.Common.{inl, inr, arith, false, true, true≢false, ◌||◌, length-append}
 use Rattle.std.specs.Prelude.{nat_lt, ◌==◌}
 use Rattle.std.proofs.Math.Nat.{min-eq_left, min-eq_right}
@@ -107,21 +107,27 @@ count_length place (pin ∷ pins) = elim (count_one place pin.from (count_after 
   | inr r ↦ omega (arith, r.1, count_length place pins)
 ]
 
+-- one pin more keeps a count at the later place less than that at the earlier one
+count_both : (place n less rest rest' : ℕ) → less + rest' ≤ rest
+    → less + cond (nat_lt (suc place) n) (suc rest') rest' ≤ cond (nat_lt place n) (suc rest) rest
+count_both place n less rest rest' more = elim (count_one place n rest) [
+  | inl l ↦ elim (count_one (suc place) n rest') [
+    | inl k ↦ omega (arith, l.1, k.1, more)
+    | inr k ↦ omega (arith, l.1, k.1, more)
+  ]
+  | inr r ↦ elim (count_one (suc place) n rest') [
+    | inl k ↦ absurd (omega (arith, r.0, k.0))
+    | inr k ↦ omega (arith, r.1, k.1, more)
+  ]
+]
+
 -- fewer read from behind a later place
 pub count_later : (place : ℕ) (pins : List Pin) → count_after (suc place) pins ≤ count_after place pins
 count_later place [] = omega arith
 count_later place (pin ∷ pins) =
     let more = count_later place pins in
-    elim (count_one place pin.from (count_after place pins)) [
-      | inl l ↦ elim (count_one (suc place) pin.from (count_after (suc place) pins)) [
-        | inl k ↦ omega (arith, l.1, k.1, more)
-        | inr k ↦ omega (arith, l.1, k.1, more)
-      ]
-      | inr r ↦ elim (count_one (suc place) pin.from (count_after (suc place) pins)) [
-        | inl k ↦ absurd (omega (arith, r.0, k.0))
-        | inr k ↦ omega (arith, r.1, k.1, more)
-      ]
-    ]
+    let both = count_both place pin.from 0 (count_after place pins) (count_after (suc place) pins) (omega (arith, more)) in
+    omega (arith, both)
 
 -- and one fewer where a pin reads from the later one
 pub count_read : (place : ℕ) (pins : List Pin) → reads_from pins (suc place) ≡ true
@@ -139,16 +145,8 @@ count_read place (pin ∷ pins) is = elim (eqb_tells pin.from (suc place)) [
   | inr s ↦
       let rest = sym (ap (λ b. b || reads_from pins (suc place)) s.0) ∙ is in
       let more = count_read place pins rest in
-      elim (count_one place pin.from (count_after place pins)) [
-        | inl l ↦ elim (count_one (suc place) pin.from (count_after (suc place) pins)) [
-          | inl k ↦ omega (arith, l.1, k.1, more)
-          | inr k ↦ omega (arith, l.1, k.1, more)
-        ]
-        | inr r ↦ elim (count_one (suc place) pin.from (count_after (suc place) pins)) [
-          | inl k ↦ absurd (omega (arith, r.0, k.0))
-          | inr k ↦ omega (arith, r.1, k.1, more)
-        ]
-      ]
+      let both = count_both place pin.from 1 (count_after place pins) (count_after (suc place) pins) (omega (arith, more)) in
+      omega (arith, both)
 ]
 
 -- not all read from behind the first place

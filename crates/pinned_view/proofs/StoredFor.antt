@@ -27,6 +27,12 @@ few_lists now kept kept' pins images stored settled least
         let same = ap (λ n. bits * n) (length-map pins version_in) in
         omega (arith, few, same)
 
+-- a file or a dimension that is refused leaves the warehouse as it was, without images
+pub same_contents : (was now : Contents) → now.state ≡ was.state → now.tree ≡ was.tree → now.index ≡ was.index
+    → now.images ≡ finmap.empty → was.images ≡ finmap.empty → now ≡ was
+same_contents was now state tree index none plain = λ j. let held : Contents
+    = record { state = state j; tree = tree j; index = index j; images = (none ∙ sym plain) j } in held
+
 -- a change that is refused after the lists were settled
 pub shows_same : (was now : Contents) (kept kept' : List ImageMap) (pins pins' : List Pin) (old : Versions) → now ≡ was
     → map version_in pins' ≡ map version_in pins

@@ -8,7 +8,7 @@ ghost use Rattle.pinned_view.specs.Refusals.{pin_refusal, widen_refusal_in};
 ghost use Rattle.pinned_view.specs.Past.{StoresNoMore};
 ghost use Rattle.pinned_view.specs.Stored.{HasFewLists, StoresNoOtherNodes};
 ghost use Rattle.pinned_view.specs.Versions.{AreVersions, ShowsSame, Version, version_now, version_of, without};
-ghost use Rattle.pinned_view.specs.Views.{IsViewOf};
+ghost use Rattle.pinned_view.specs.Views.{AreLast, IsViewOf};
 ghost use Rattle.warehouse.specs.Batch as batches;
 ghost use Rattle.warehouse.specs.InPlace.{IsWithinCost, LeavesOtherRecords, LeavesNumbers};
 ghost use Rattle.warehouse.specs.Loading.{cost_of_load};
@@ -128,7 +128,7 @@ impl Pinned {
         ensures some { IfSome result (λ view. (version : Version)
             × (version_of self.now.pins name.now ≡ Some version)
             × IsViewOf self.now.now.state version view) }
-        ensures lists { IfSome result (λ view. view.lists ≤ length self.now.stored) }
+        ensures lists { IfSome result (λ view. AreLast view.lists self.now.stored) }
     {
         let pin = pin_of(&self.pins, name)?;
         let over = images_since(&self.kept, pin.from);

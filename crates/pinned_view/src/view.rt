@@ -25,21 +25,21 @@ pub struct PinnedView<'a> {
 
 impl<'a> Model for PinnedView<'a> {
     ghost use Rattle.std.specs.Coded.{codes};
-    ghost use Rattle.std.specs.Prelude.{length};
     ghost use Rattle.qc_arena.specs.Codes.{tree_code};
+    ghost use Rattle.qc_arena.specs.Map.{images_code};
     ghost use Rattle.pinned_view.specs.Past.{with_all_images};
     ghost use Rattle.pinned_view.specs.Views.{CountedTree, IsRootOf};
 
     ghost Value = { CountedTree };
 
-    ghost coded = { Prim.hlevel (codes, tree_code) };
+    ghost coded = { Prim.hlevel (codes, tree_code, images_code) };
 
     ghost view = { λ v. record {
       width = v.tree.now.width;
       tree
           = with_all_images v.over.now v.tree.now.now;
       stats = v.stats;
-      lists = length v.over.now;
+      lists = v.over.now;
     } };
 
     ghost invariant = { λ v. IsRootOf v.tree.now.width
@@ -58,7 +58,7 @@ impl<'a> PinnedView<'a> {
         ensures tree { result.tree ≡ with_all_images over.now tree.now.now }
         ensures width { result.width ≡ tree.now.width }
         ensures stats { result.stats ≡ stats }
-        ensures lists { result.lists ≡ length over.now }
+        ensures lists { result.lists ≡ over.now }
     {
         PinnedView {
             tree,
@@ -75,11 +75,13 @@ impl<'a> PinnedView<'a> {
         self.stats
     }
 
-    /// What the first of the lists of before-images that has the number says of it. Each list that
-    /// is looked at is a step. Each takes two binary searches.
+    /// What the lists of before-images say of a number: what the first that has it says, or Same if
+    /// none has it. Then the node is as it is now. Each list that is looked at is a step, of two
+    /// binary searches.
     pub fn look<L: Ledger>(&self, node: NodeNo, looks: &mut Steps<L>) -> Look<'a>
+        ensures first { look_of_image result ≡ first_image self.now.lists node.0 }
         ensures says { SaysOf self.now.tree node.0 result }
-        ensures looks { looks.new ≤ looks.old + self.now.lists }
+        ensures looks { looks.new ≤ looks.old + length self.now.lists }
     {
         look_in(self.over, node, looks)
     }

@@ -10,7 +10,7 @@ use Rattle.pinned_view.specs.Pins.{ArePins, version_in}
 use Rattle.pinned_view.specs.Stored.{StoresNoOtherNodes}
 use Rattle.pinned_view.specs.Versions.{Versions}
 use Rattle.pinned_view.proofs.Staying.{after_change, pins_settled, versions_moved}
-use Rattle.pinned_view.proofs.StoredFor.{few_lists, shows_same, stores_touched}
+use Rattle.pinned_view.proofs.StoredFor.{few_lists, same_contents, shows_same, stores_touched}
 use Rattle.pinned_view.proofs.pinned.Pinned.apply.Given as Given
 use Rattle.pinned_view.proofs.pinned.Pinned.apply.Goals as goal
 
@@ -26,9 +26,8 @@ invariant_of-self g c =
 same_held : (g : Given.Over) (c : goal.In-Err-apply g) → c.apply.new.self ≡ c.self.inside.warehouse
 same_held g c =
     let said = c.in-Err-apply.ensures in
-    let images = said.no_images ∙ sym c.self.invariant.0.plain in
-    λ j. let held : Contents
-    = record { state = said.state j; tree = said.tree j; index = said.index j; images = images j } in held
+    same_contents c.self.inside.warehouse c.apply.new.self said.state said.tree said.index said.no_images
+    c.self.invariant.0.plain
 
 pub invariant_of-self-in-Err-apply : goal.invariant_of-self-in-Err-apply
 invariant_of-self-in-Err-apply g c =

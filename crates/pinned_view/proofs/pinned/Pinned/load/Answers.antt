@@ -8,7 +8,7 @@ use Rattle.warehouse.specs.Stored.{applied_in, refusal_in}
 use Rattle.pinned_view.specs.Pins.{ArePins}
 use Rattle.pinned_view.specs.Versions.{Versions}
 use Rattle.pinned_view.proofs.Staying.{after_change, pins_settled, versions_moved}
-use Rattle.pinned_view.proofs.StoredFor.{few_lists, shows_same}
+use Rattle.pinned_view.proofs.StoredFor.{few_lists, same_contents, shows_same}
 use Rattle.pinned_view.proofs.pinned.Pinned.load.Given as Given
 use Rattle.pinned_view.proofs.pinned.Pinned.load.Goals as goal
 
@@ -24,9 +24,8 @@ invariant_of-self g c =
 same_held : (g : Given.Over) (c : goal.In-Err-load g) → c.load.new.self ≡ c.self.inside.warehouse
 same_held g c =
     let said = c.in-Err-load.ensures in
-    let images = said.no_images ∙ sym c.self.invariant.0.plain in
-    λ j. let held : Contents
-    = record { state = said.state j; tree = said.tree j; index = said.index j; images = images j } in held
+    same_contents c.self.inside.warehouse c.load.new.self said.state said.tree said.index said.no_images
+    c.self.invariant.0.plain
 
 pub invariant_of-self-in-Err-load : goal.invariant_of-self-in-Err-load
 invariant_of-self-in-Err-load g c =

@@ -4,7 +4,7 @@ use Rattle.cube_defs.specs.Tree.{Tree}
 use Rattle.pinned_view.specs.Past.{with_all_images}
 use Rattle.pinned_view.specs.Pins.{IsPin, version_in, was_in}
 use Rattle.pinned_view.specs.Versions.{Version, Versions, version_of}
-use Rattle.pinned_view.specs.Views.{IsRootOf, IsViewOf}
+use Rattle.pinned_view.specs.Views.{AreLast, IsRootOf, IsViewOf}
 use Rattle.warehouse.specs.Counted.{AreCounted}
 use Rattle.pinned_view.proofs.Staying.{find-map, found_one}
 use Rattle.pinned_view.proofs.pinned.Pinned.view.Goals as goal
@@ -52,3 +52,13 @@ returns-clause-some c =
         has = is.has;
       },
     )
+
+-- the lists since the pin are the last of those that are stored
+pub returns-clause-lists : goal.returns-clause-lists
+returns-clause-lists c =
+    let m = c.self.inside in
+    let pin = c.in_ok-pin.pin.now in
+    let is = found_one (IsPin m.warehouse m.kept.items) c.args.name.now m.pins.items pin
+    (sym c.in_ok-pin.ensures) c.self.invariant.0.each in
+    subst (λ (v : Versions). AreLast c.over.result.lists v.stored) c.self.view_is
+    (pin.from, is.within, c.over.ensures.lists ∙ c.images_since-over.ensures)

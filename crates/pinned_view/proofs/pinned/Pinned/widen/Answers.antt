@@ -5,6 +5,7 @@ use Rattle.warehouse.specs.Widening as widening
 use Rattle.warehouse.specs.Widening.{KeepsWidened, cost_of_widening, widen_result}
 use Rattle.pinned_view.specs.Pins.{version_in}
 use Rattle.pinned_view.specs.Versions.{Versions}
+use Rattle.pinned_view.proofs.StoredFor.{same_contents}
 use Rattle.pinned_view.proofs.pinned.Pinned.widen.Goals as goal
 use Rattle.pinned_view.proofs.pinned.Pinned.widen.Goals.{in-Ok, in-Err}
 
@@ -38,9 +39,8 @@ returns-clause-err g c =
       | in-Ok w ↦ rw w.result-is tt
       | in-Err w ↦
           let said = w.in-Err.ensures in
-          let images = said.no_images ∙ sym c.self.invariant.0.plain in
-          let same : c.widen.new.self ≡ c.self.inside.warehouse = λ j. let held : Contents
-          = record { state = said.state j; tree = said.tree j; index = said.index j; images = images j } in held in
+          let same = same_contents c.self.inside.warehouse c.widen.new.self said.state said.tree said.index said.no_images
+          c.self.invariant.0.plain in
           rw w.result-is (ap (λ (held : Contents). let v : Versions
           = record { now = held; pins = map version_in c.self.inside.pins.items; stored = c.self.inside.kept.items } in v) same
           ∙ c.self.view_is)
