@@ -1,7 +1,7 @@
 // The classes in order of value, for each of some kinds.
 ghost use Rattle.std.specs.List.{AllZip};
 ghost use Rattle.std.specs.Option.{option_copied};
-ghost use Rattle.std.specs.Prelude.{All, IfOk, IsSome, None, OnErr, OnOk, Option, [], filter, is_some, length, map, reverse, true, ℕ, ◌≡◌, ◌≤◌};
+ghost use Rattle.std.specs.Prelude.{All, IfOk, IsSome, None, OnErr, OnOk, Option, [], filter, is_some, length, map, reverse, ℕ, ◌≡◌, ◌≤◌};
 ghost use Rattle.aggregates.specs.Views.{IsThere};
 ghost use Rattle.cube_defs.specs.Rows as defs;
 ghost use Rattle.qc_arena.specs.Changes.{AreNew};
@@ -82,12 +82,6 @@ fn change_columns(
     }
 }
 
-fn is_empty(column: &Column) -> bool
-    ensures { result ≡ true → length column.now.entries ≡ 0 }
-{
-    column.len() == 0
-}
-
 impl Index {
     /// An index without entries. `scales` has the scales of the measures.
     pub fn new(alloc: Global, kinds: &[AggKind], scales: &[u8]) -> Result<Index, Memory>
@@ -132,13 +126,6 @@ impl Index {
         ensures { result ≡ length (entries_of kind self.now) }
     {
         self.column(kind).unwrap().len()
-    }
-
-    /// Whether no kind has an entry.
-    pub fn is_empty(&self) -> bool
-        ensures { result ≡ true → All (λ r. length r.entries ≡ 0) self.now }
-    {
-        self.columns.iter().all(|column| is_empty(column))
     }
 
     /// Removes the classes of `remove` and adds those of `add`, in each kind. An entry that is in

@@ -1,4 +1,4 @@
-use Rattle.std.proofs.Common.{Err, IfSome, Ok, ap, length, map, subst, sym, ◌∙◌, ◌+◌, ◌≡◌, ◌≤◌}
+use Rattle.std.proofs.Common.{Err, IfSome, Ok, ap, length, map, subst, ◌∙◌, ◌+◌, ◌≡◌, ◌≤◌}
 use Rattle.warehouse.specs.State.{Contents}
 use Rattle.warehouse.specs.Stored.{applied_in}
 use Rattle.warehouse.specs.Widening as widening
