@@ -133,7 +133,7 @@ fn is_filled_right(index: &Index) -> bool {
             return false;
         }
     }
-    !index.is_empty()
+    true
 }
 
 fn is_filled(alloc: Global) -> Result<bool, Memory> {
