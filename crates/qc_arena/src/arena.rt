@@ -234,7 +234,8 @@ impl QcArena {
         if self.images.has(node.0) {
             return Ok(());
         }
-        match copy_at(&self.nodes, &self.parts, node.0) {
+        let alloc = self.images.allocator();
+        match copy_at(alloc, &self.nodes, &self.parts, node.0) {
             Ok(image) => self.images.add_was(node.0, image),
             Err(error) => Err(error),
         }

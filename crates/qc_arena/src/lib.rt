@@ -7,6 +7,7 @@ mod class_numbers;
 mod counted;
 mod edges;
 mod image;
+mod image_parts;
 mod images;
 mod label_path;
 mod measure_columns;

@@ -8,7 +8,8 @@ use aggregates::{Agg, Part};
 use cube_defs::MAX_MEASURES;
 use std::alloc::Global;
 
-const ZERO: Part = Part {
+/// The part of a measure that isn't there.
+pub(crate) const ZERO: Part = Part {
     sum: 0,
     least: 0,
     greatest: 0,
@@ -48,7 +49,7 @@ fn part_at(column: &Vec<Part>, node: u32) -> Part
     }
 }
 
-fn is_zero(part: Part) -> bool
+pub(crate) fn is_zero(part: Part) -> bool
     ensures { IsTrue result → part ≡ zero_part }
 {
     part.sum == 0 && part.least == 0 && part.greatest == 0

@@ -17,6 +17,7 @@ ghost use Rattle.qc_arena.specs.RecordReaders.{edge_of, record_or};
 use crate::Memory;
 use crate::edges::PlainEdge;
 use crate::image::{Image, Record};
+use crate::image_parts::ImageParts;
 use crate::measure_columns::MeasureColumns;
 use crate::nodes::Forced;
 use crate::place::NodeSlot;
@@ -26,7 +27,7 @@ use aggregates::Agg;
 use cell_core::Code;
 use cube_defs::{MAX_DIMS, MAX_MEASURES};
 use slab::Slab;
-use std::alloc::AllocError;
+use std::alloc::{AllocError, Global};
 
 // Writes a record into a place.
 fn write_slot(nodes: &mut Slab<NodeSlot>, node: u32, rec: NodeRecord)
@@ -306,6 +307,7 @@ pub(crate) fn class_at(nodes: &Slab<NodeSlot>, parts: &MeasureColumns, node: u32
 
 // A copy of a node's record and aggregate.
 pub(crate) fn copy_at(
+    alloc: Global,
     nodes: &Slab<NodeSlot>,
     parts: &MeasureColumns,
     node: u32,
@@ -315,9 +317,16 @@ pub(crate) fn copy_at(
         (λ a. IsShown (shown parts.now node) a) }
     ensures { IfOk result (λ w. join (slots.get nodes.now node) ≡ Some w) }
 {
-    match record_of(nodes, node as usize).copy() {
-        Ok(record) => Ok(Record::new(record, parts.at(node))),
-        Err(error) => Err(error),
+    let record = match record_of(nodes, node as usize).copy() {
+        Ok(record) => record,
+        Err(error) => return Err(error),
+    };
+    match ImageParts::of(alloc, &parts.at(node)) {
+        Ok(parts) => Ok(Record::new(record, parts)),
+        Err(error) => {
+            drop(record);
+            Err(error)
+        }
     }
 }
 
