@@ -9,7 +9,7 @@ use Rattle.aggregates.specs.Views.{agg_in}
 use Rattle.tree_laws.specs.Walk.{last_label}
 use Rattle.qc_arena.specs.declared.edges.StoredEdge.{StoredEdge}
 use Rattle.qc_arena.specs.Edges.{edges_to, is_small, rises}
-use Rattle.cube_defs.specs.declared.limits.TheConstants.{MAX_DIMS, MAX_MEASURES}
+use Rattle.cube_defs.specs.declared.limits.TheConstants.{MAX_MEASURES}
 use Rattle.cell_core.specs.Entry.{IsCode}
 
 -- a cell with the values of some labels
@@ -60,7 +60,7 @@ pub record IsNodeRecord (trail : List (ℕ × ℕ)) (noted : List (ℕ × Agg)) 
   pub end : last_label (cell_on trail) ≡ label_in dim code
   pub small_end : IsCode code
   pub small_forced : forced_code ≢ 4294967295 → IsCode forced_code
-  pub few_dims : length (cell_on trail) ≤ MAX_DIMS
+  pub few_dims : length (cell_on trail) ≤ 255
   pub begun : trail ≢ []
   pub within : IsTrail trail
   pub rising : rises (edges_to edges) ≡ true

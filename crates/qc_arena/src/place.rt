@@ -16,7 +16,7 @@ use crate::nodes::Forced;
 use crate::records::NodeRecord;
 use aggregates::Agg;
 use cell_core::Code;
-use cube_defs::{MAX_DIMS, MAX_MEASURES};
+use cube_defs::MAX_MEASURES;
 use std::marker::Model;
 
 /// The place of a number: the record of its node, or nothing after the node was killed. The record
@@ -135,7 +135,6 @@ impl NodeSlot {
     // Gives the cell another number of dimensions.
     pub(crate) fn set_width(&mut self, dims: u8)
         requires there { IsSome self.old }
-        requires few { dims ≤ MAX_DIMS }
         requires deep { depth (record_or self.old).cell ≤ dims }
         ensures { self.new ≡ option_map (resized dims) self.old }
     {

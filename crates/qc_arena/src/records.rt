@@ -17,7 +17,7 @@ use crate::label_path::LabelPath;
 use crate::nodes::Forced;
 use aggregates::Agg;
 use cell_core::{Code, NodeNo};
-use cube_defs::{MAX_DIMS, MAX_MEASURES};
+use cube_defs::MAX_MEASURES;
 use smallvec::SmallVec;
 use std::alloc::Global;
 use std::marker::Model;
@@ -81,7 +81,6 @@ impl Model for NodeRecord {
 impl NodeRecord {
     // The record of the root, whose cell has no value.
     pub(crate) fn root(alloc: Global, dims: u8) -> NodeRecord
-        requires { dims ≤ MAX_DIMS }
         ensures { result.node ≡ bare (replicate dims None) None }
     {
         let nothing = LabelPath::<u8, u32>::new();
@@ -226,8 +225,7 @@ impl NodeRecord {
 
     // Gives the cell another number of dimensions. The new ones are Any.
     pub(crate) fn set_width(&mut self, dims: u8)
-        requires few { dims ≤ MAX_DIMS }
-        requires deep { depth self.old.node.cell ≤ dims }
+        requires { depth self.old.node.cell ≤ dims }
         ensures { self.new ≡ record self.old { node = resized dims self.old.node } }
     {
         self.trail = self.trail.behind(&dims, &0);

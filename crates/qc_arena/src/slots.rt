@@ -25,7 +25,7 @@ use crate::records::NodeRecord;
 use crate::touched::Touched;
 use aggregates::Agg;
 use cell_core::Code;
-use cube_defs::{MAX_DIMS, MAX_MEASURES};
+use cube_defs::MAX_MEASURES;
 use slab::Slab;
 use std::alloc::{AllocError, Global};
 
@@ -104,7 +104,6 @@ pub(crate) fn free_killed(nodes: &mut Slab<NodeSlot>, images: &Touched)
 
 // Gives the cell of the node at a place another number of dimensions, if there is one.
 fn resize_at(nodes: &mut Slab<NodeSlot>, place: usize, dims: u8)
-    requires few { dims ≤ MAX_DIMS }
     requires none_killed { slots.get nodes.old place ≢ Some None }
     requires deep { IfSome (join (slots.get nodes.old place)) (λ n. depth n.cell ≤ dims) }
     ensures here { join (slots.get nodes.new place) ≡ option_map (resized dims)
@@ -119,7 +118,6 @@ fn resize_at(nodes: &mut Slab<NodeSlot>, place: usize, dims: u8)
 
 // Gives each cell another number of dimensions.
 pub(crate) fn resize_all(nodes: &mut Slab<NodeSlot>, dims: u8)
-    requires few { dims ≤ MAX_DIMS }
     requires none_killed { (q : ℕ) → slots.get nodes.old q ≢ Some None }
     requires deep { (q : ℕ) → IfSome (join (slots.get nodes.old q)) (λ n. depth n.cell ≤ dims) }
     ensures nodes { (q : ℕ)
@@ -133,7 +131,6 @@ pub(crate) fn resize_all(nodes: &mut Slab<NodeSlot>, dims: u8)
 
 // Gives each cell another number of dimensions, if the number differs.
 pub(crate) fn resize_from(nodes: &mut Slab<NodeSlot>, had: u8, dims: u8)
-    requires few { dims ≤ MAX_DIMS }
     requires none_killed { (q : ℕ) → slots.get nodes.old q ≢ Some None }
     requires deep { (q : ℕ) → IfSome (join (slots.get nodes.old q)) (λ n. depth n.cell ≤ dims) }
     requires had { (q : ℕ) → IfSome (join (slots.get nodes.old q)) (λ n. length n.cell ≡ had) }

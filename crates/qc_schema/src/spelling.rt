@@ -3,7 +3,7 @@ ghost use Rattle.std.specs.Prelude.{◌≡◌, ◌<◌, [], ◌∷◌, ◌++◌,
 ghost use Rattle.std.specs.List.{flat_map};
 ghost use Rattle.aggregates.specs.Views.{IsThere};
 ghost use Rattle.qc_schema.specs.Grammar.{schema_in};
-ghost use Rattle.qc_schema.specs.Schema.{IsLayout, version_word};
+ghost use Rattle.qc_schema.specs.Schema.{version_word};
 ghost use Rattle.qc_schema.specs.Spelling.{dim_words, index_words, layout_text, limit_words, line_text, measure_words};
 
 use crate::Memory;
@@ -91,10 +91,11 @@ fn push_index(text: &mut Vec<u8>, schema: &Schema, kind: AggKind) -> Result<(), 
 }
 
 fn push_indexes(text: &mut Vec<u8>, schema: &Schema) -> Result<(), Memory>
-    requires { IsLayout schema.now }
     ensures { OnOk result (text.new.items ≡ text.old.items
         ++ flat_map line_text (map (index_words schema.now.measures) schema.now.indexes)) }
 {
+    // A schema has a layout of its own.
+    let _dims = schema.dims();
     for kind in schema.indexes() {
         push_index(text, schema, *kind)?;
     }

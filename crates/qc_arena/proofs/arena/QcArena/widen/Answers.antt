@@ -16,11 +16,6 @@ use Rattle.qc_arena.proofs.SlotMaps.{get_now, there}
 use Rattle.qc_arena.proofs.Stored.{resized_stored}
 use Rattle.qc_arena.proofs.arena.QcArena.widen.Goals as goal
 
-pub resize_all-requires-clause-few : goal.resize_all-requires-clause-few
-resize_all-requires-clause-few c =
-    let wide : c.self.inside.dims ≡ c.args.self.now.width = ap (λ (v : Arena). v.width) c.self.view_is in
-    omega (arith, wide, c.requires.few)
-
 pub resize_all-requires-clause-none_killed : goal.resize_all-requires-clause-none_killed
 resize_all-requires-clause-none_killed c = λ q e.
     let m = c.self.inside in

@@ -13,7 +13,7 @@ invariant_of-self c =
     let is = c.self.invariant in
     let trail = c.self.inside.trail.items in
     let was : cell_on trail ≡ c.args.self.now.node.cell = ap (λ (h : Slot). h.node.cell) c.self.view_is in
-    let deep = subst (λ (x : Cell ℕ). depth x ≤ c.args.dims) (sym was) c.requires.deep in
+    let deep = subst (λ (x : Cell ℕ). depth x ≤ c.args.dims) (sym was) c.requires in
     let cell = ap cell_on c.behind-self-inside.ensures ∙ cell_on-resized c.args.dims 0 trail is.begun is.within in
     record {
       heading = is.heading;
@@ -21,7 +21,7 @@ invariant_of-self c =
       small_end = is.small_end;
       small_forced = is.small_forced;
       few_dims = let long = ap (λ (x : Cell ℕ). length x) cell ∙ length-resize c.args.dims (cell_on trail) in
-          let few = c.requires.few in omega arith;
+          omega arith;
       begun = subst (λ (x : List (ℕ × ℕ)). x ≢ []) (sym c.behind-self-inside.ensures)
           (first_begun (c.args.dims, 0) trail);
       within = subst IsTrail (sym c.behind-self-inside.ensures) (within_first c.args.dims 0 trail is.within deep);
