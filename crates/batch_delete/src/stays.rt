@@ -1,10 +1,10 @@
 // Whether a class stays when the row is deleted.
 ghost use Rattle.std.specs.Prelude.{IfSome, None, Some, false, length, slice_get, true, ℕ, ◌+◌, ◌<◌, ◌≡◌};
-ghost use Rattle.batch_delete.specs.DeletedRow.{IsDeletedRow, IsKnown, MaySettle};
+ghost use Rattle.batch_delete.specs.DeletedRow.{IsKnown, MaySettle};
 ghost use Rattle.batch_delete.specs.Rests.{Deletion, IsRest, rows_after};
 
 use crate::cells::has;
-use crate::deleted_row::{Class, DeletedRow};
+use crate::deleted_row::Class;
 use crate::parts::Rest;
 use aggregates::Agg;
 use cell_core::{Cell, Entry};
@@ -56,11 +56,8 @@ fn are_all_but_one(some: &Rest, whole: Option<Agg>) -> bool
 
 /// The rest of a class, if some of its rows settle it. They do if they are all rows but the deleted
 /// one. They also do if they show that the class stays, and its aggregate without the row is known.
-pub(crate) fn settled(row: &DeletedRow<'_>, class: &Class, some: &Option<Rest>) -> Option<Rest>
+pub(crate) fn settled(class: &Class<'_>, some: &Option<Rest>) -> Option<Rest>
     ghost d: { Deletion }
-    requires row { IsDeletedRow d row.now.arena.now row.now.tuple.now row.now.all
-        row.now.duplicates }
-    requires long { length class.now.cell ≡ row.now.arena.now.width }
     requires class { IsKnown d class.now }
     requires rest { IfSome some.now (λ rest. MaySettle d class.now.cell rest) }
     ensures rest { IfSome result
@@ -75,7 +72,7 @@ pub(crate) fn settled(row: &DeletedRow<'_>, class: &Class, some: &Option<Rest>) 
             match class.less {
                 None => None,
                 Some(agg) => {
-                    if is_settled(row.tuple, &class.cell, &rest.shared) {
+                    if is_settled(class.row.tuple, &class.cell, &rest.shared) {
                         Some(Rest {
                             shared: class.cell.copy(),
                             agg,

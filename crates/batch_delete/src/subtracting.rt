@@ -104,8 +104,7 @@ pub(crate) fn class_at<L: Ledger>(
 /// any measure.
 pub(crate) fn agg_without_row(row: &DeletedRow<'_>, cell: &Cell, whole: Option<Agg>) -> Option<Agg>
     ghost d: { Deletion }
-    requires row { IsDeletedRow d row.now.arena.now row.now.tuple.now row.now.all
-        row.now.duplicates }
+    requires row { IsDeletedRow d row.now }
     requires below { defs.covers (eq_by_cmp nat_cmp) cell.now d.r ≡ true }
     requires whole { option_map agg_in whole ≡ agg_at (eq_by_cmp nat_cmp) d.measures
         (rows_before d) cell.now }
