@@ -1,7 +1,8 @@
-use Rattle.std.proofs.Common.{◌<◌, subst}
+use Rattle.std.proofs.Common.{◌<◌, length, subst}
 use Rattle.batch_insert.specs.Numbered.{numbered}
 use Rattle.batch_insert.proofs.Each.{one_set}
-use Rattle.batch_insert.proofs.Reading.{ok_then}
+use Rattle.batch_insert.specs.Planned.{CanSet}
+use Rattle.batch_insert.proofs.Reading.{ok_then, one_of}
 use Rattle.batch_insert.proofs.Keeping.{number_rewrite, number_there}
 use Rattle.batch_insert.proofs.labels.set_tuple_label.Goals as goal
 
@@ -12,7 +13,7 @@ put_label-requires g c = record {
   label = record {
     target = number_there c.args.tuple.now c.args.arena.now (numbered c.args.numbers.now) _ _ c.requires.repair.numbers
         c.number_of-target.ensures;
-    dim = subst (λ n. c.args.own.dim < n) c.requires.repair.width c.requires.within.dim;
+    dim = subst (λ n. c.args.own.dim < n) c.requires.repair.width (one_of (λ x. CanSet (length c.args.tuple.now) (numbered c.args.numbers.now) x) _ c.requires.within).dim;
     code = c.tuple_code-code.ensures.small;
   };
 }
@@ -25,7 +26,7 @@ returns-clause-done g c
     c.put_label.ensures.others) c.put_label.ensures.here
 
 pub tuple_code-code-requires : goal.tuple_code-code-requires
-tuple_code-code-requires g c = record { no_any = c.requires.repair.no_any; dim = c.requires.within.dim }
+tuple_code-code-requires g c = record { no_any = c.requires.repair.no_any; dim = (one_of (λ x. CanSet (length c.args.tuple.now) (numbered c.args.numbers.now) x) _ c.requires.within).dim }
 
 pub returns-clause-keeps : goal.returns-clause-keeps
 returns-clause-keeps g c = c.put_label.ensures.keeps
