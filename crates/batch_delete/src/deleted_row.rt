@@ -4,10 +4,10 @@ ghost use Rattle.batch_delete.specs.DeletedRow.{IsClassOfRow, IsKnown};
 ghost use Rattle.batch_delete.specs.Rests.{Deletion};
 
 use crate::generalizing::NodeCell;
-use crate::subtracting::{agg_without_row, class_at};
+use crate::subtracting::agg_without_row;
 use aggregates::Agg;
 use cell_core::{Cell, Steps};
-use qc_arena::QcArena;
+use qc_arena::{Nodes, QcArena};
 use std::sync::ledger::Ledger;
 
 /// What is known of the deleted row: the tree before the deletion, its tuple, the aggregate of all
@@ -43,7 +43,7 @@ pub(crate) fn class_at_node<'a, L: Ledger>(
     ensures cell { result.cell ≡ below.now.cell }
     ensures steps { steps.new ≤ steps.old + 1 }
 {
-    let whole = class_at(row.arena, below, steps);
+    let whole = row.arena.class(below.node, steps);
     let less = agg_without_row(row, &below.cell, whole);
     Class {
         row,

@@ -26,10 +26,11 @@ pub(crate) fn set_kinds<L: Ledger>(
     arena: &mut QcArena,
     steps: &mut Steps<L>,
 )
-    requires { CanEndAll row.now.tuple.now (length row.now.amounts.now) arena.old (numbered numbers.now) ends.now }
+    requires { CanEndAll row.now.tuple.now (length row.now.amounts.now) arena.old
+        (numbered numbers.now) ends.now }
     ensures keeps { KeepsNodes row.now.tuple.now arena.old arena.new }
-    ensures done { HaveEnded row.now.tuple.now row.now.amounts.now (numbered numbers.now) ends.now arena.old.now
-        arena.new.now }
+    ensures done { HaveEnded row.now.tuple.now row.now.amounts.now (numbered numbers.now) ends.now
+        arena.old.now arena.new.now }
     ensures steps { steps.new ≤ steps.old + 2 * length ends.now }
 {
     'ends: for k in 0..ends.len() {
@@ -44,10 +45,11 @@ fn set_kind<L: Ledger>(
     arena: &mut QcArena,
     steps: &mut Steps<L>,
 )
-    requires { CanEndAll row.now.tuple.now (length row.now.amounts.now) arena.old (numbered numbers.now) (end ∷ []) }
+    requires { CanEndAll row.now.tuple.now (length row.now.amounts.now) arena.old
+        (numbered numbers.now) (end ∷ []) }
     ensures keeps { KeepsNodes row.now.tuple.now arena.old arena.new }
-    ensures done { HaveEnded row.now.tuple.now row.now.amounts.now (numbered numbers.now) (end ∷ []) arena.old.now
-        arena.new.now }
+    ensures done { HaveEnded row.now.tuple.now row.now.amounts.now (numbered numbers.now)
+        (end ∷ []) arena.old.now arena.new.now }
     ensures steps { steps.new ≤ steps.old + 2 }
 {
     let node = numbers.number_of(end.mask);

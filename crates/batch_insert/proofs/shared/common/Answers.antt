@@ -1,7 +1,8 @@
 use Rattle.std.proofs.Common.{refl, sym, arith}
 use Rattle.cube_laws.proofs.CallerLemmas.{depth-le}
 use Rattle.qc_arena.specs.RecordReaders.{record_at}
-use Rattle.batch_insert.proofs.Climbing.{above, below_on, bit_within, common_fits, common_on, has_parent, long_at, shared_there, shares_root, within}
+use Rattle.batch_insert.proofs.Climbing.{above, below_on, bit_within, common_fits, common_on, has_parent, long_at, shared_there}
+use Rattle.batch_insert.proofs.Climbing.{shares_root, within}
 use Rattle.batch_insert.proofs.shared.common.Goals as goal
 
 pub up-init : goal.up-init
