@@ -57,7 +57,7 @@ fn set_kind<L: Ledger>(
         Some(forcing) => set_forced_child(node, forcing, row, numbers, arena, steps),
         None => {
             let agg = with_row(end.before, row);
-            mark(node, agg, row.tuple, arena, steps);
+            mark(node, agg, row, arena, steps);
         }
     }
 }
@@ -106,9 +106,15 @@ fn with_row(before: Option<Agg>, row: &InsertedRow<'_>) -> Agg
     }
 }
 
-fn mark<L: Ledger>(node: NodeNo, agg: Agg, tuple: &Cell, arena: &mut QcArena, steps: &mut Steps<L>)
-    requires { CanRewrite tuple.now arena.old node.0 }
-    ensures keeps { KeepsNodes tuple.now arena.old arena.new }
+fn mark<L: Ledger>(
+    node: NodeNo,
+    agg: Agg,
+    row: &InsertedRow<'_>,
+    arena: &mut QcArena,
+    steps: &mut Steps<L>,
+)
+    requires { CanRewrite row.now.tuple.now arena.old node.0 }
+    ensures keeps { KeepsNodes row.now.tuple.now arena.old arena.new }
     ensures here { map.get arena.new.now node.0 ≡ option_map (with_class (Some (agg_in agg)))
         (option_map (with_forced None) (map.get arena.old.now node.0)) }
     ensures others { (q : ℕ) → q ≢ node.0 → map.get arena.new.now q ≡ map.get arena.old.now q }
