@@ -5,13 +5,12 @@ use Rattle.std.specs.Ordering.{eq_by_cmp}
 use Rattle.cube_defs.specs.Cell.{Cell, cell_prefix, cell_of, with_value}
 use Rattle.cube_defs.specs.Rows.{closure}
 use Rattle.cube_defs.specs.Tree.{Edge, Tree, cell_at}
-use Rattle.aggregates.specs.declared.agg.Agg.{Agg}
 use Rattle.qc_arena.specs.Edges.{rises}
-use Rattle.qc_arena.specs.Map.{Arena}
 use Rattle.qc_arena.specs.RecordReaders.{record_at}
 use Rattle.tree_search.specs.Found.{IsTreeOf, closure_in}
+use Rattle.batch_delete.specs.declared.deleted_row.Class.{Class}
 use Rattle.batch_delete.specs.declared.parts.Rest.{Rest}
-use Rattle.batch_delete.specs.DeletedRow.{IsPrefixNode, IsClass, IsDeletedRow}
+use Rattle.batch_delete.specs.DeletedRow.{IsPrefixNode, IsClass}
 use Rattle.batch_delete.specs.Rests.{Deletion, IsRest, IsTotal, other_values, rows_after, rows_before, source_before}
 use Rattle.batch_delete.proofs.Others.{others_taken}
 use Rattle.batch_delete.proofs.Paid.{label_steps, own_label}
@@ -27,18 +26,17 @@ pub record AtLabels (dims : ℕ) (nodes : Tree ℕ) (d : Deletion) (t u : Cell �
   pub dim : i < length u
   pub front : cell_at nodes number ≡ Some (cell_prefix i u)
 
-pub at_labels : (a : Arena) (d : Deletion) (t : Cell ℕ) (before after : Option Agg) (u : Cell ℕ) (i number : ℕ)
-    → IsDeletedRow d a t before after → IsPrefixNode d a u i number → AtLabels a.width a.now d t u i number
-at_labels a d t before after u i number row at
+pub at_labels : (d : Deletion) (class : Class) (i number : ℕ) → IsPrefixNode d class i number
+    → AtLabels class.row.now.arena.now.width class.row.now.arena.now.now d class.row.now.tuple.now class.cell i number
+at_labels d class i number at
     = record {
-      tree = row.tree;
-      long = at.long;
-      tuple = row.long;
-      row = row.tuple;
-      class = at.class;
+      tree = at.known.gone.tree;
+      long = at.known.long;
+      tuple = at.known.gone.long;
+      row = at.known.gone.tuple;
+      class = at.known.is;
       any = at.any;
-      dim
-          = at.dim;
+      dim = at.dim;
       front = at.front;
     }
 

@@ -1,6 +1,7 @@
 -- The row that goes, and the classes that it is one of.
 use Rattle.std.specs.FinMap as map
 use Rattle.std.specs.Prelude.{◌≡◌, ◌≤◌, ◌<◌, ℕ, suc, true, Option, Some, None, IfSome, IsSome, List, length, nat_eq, slice_get}
+use Rattle.std.specs.Prelude.{slice_index_or}
 use Rattle.std.specs.Option.{option_map}
 use Rattle.std.specs.Ordering.{eq_by_cmp, nat_cmp}
 use Rattle.aggregates.specs.declared.agg.Agg.{Agg}
@@ -15,9 +16,11 @@ use Rattle.qc_arena.specs.Map.{Arena}
 use Rattle.tree_laws.specs.Walk.{closure_prefix}
 use Rattle.tree_search.specs.Found.{IsNumberOfCell, IsTreeOf, closure_in}
 use Rattle.batch_delete.specs.declared.deleted_row.Class.{Class}
+use Rattle.batch_delete.specs.declared.deleted_row.DeletedRow.{DeletedRow}
 use Rattle.batch_delete.specs.declared.generalizing.NodeCell.{NodeCell}
 use Rattle.batch_delete.specs.declared.parts.Rest.{Rest}
 use Rattle.batch_delete.specs.declared.plan.NodePlan.{NodePlan}
+use Rattle.batch_delete.specs.Plan.{planned_rest_in}
 use Rattle.batch_delete.specs.Rests.{AreGreaterPlanned, Deletion, IsRest, SharesAtMost, rows_after, rows_before, source_before}
 
 -- the row that goes: the tree before, its tuple, and what the other rows of the tuple come to
@@ -30,12 +33,12 @@ pub record IsDeletion (d : Deletion) (a : Arena) (t : Cell ℕ) (after : Option 
 
 -- what is known of the row that goes: the tree before, its tuple, and what the tuple's rows come to before and
 -- afterwards
-pub record IsDeletedRow (d : Deletion) (a : Arena) (t : Cell ℕ) (before after : Option Agg) : Type 0 where
-  pub tree : IsTreeOf a.width a.now (source_before d)
-  pub long : length t ≡ a.width
-  pub tuple : t ≡ cell_of d.r.tuple
-  pub all : option_map agg_in before ≡ agg_at (eq_by_cmp nat_cmp) d.measures (rows_before d) t
-  pub duplicates : option_map agg_in after ≡ agg_at (eq_by_cmp nat_cmp) d.measures (rows_after d) t
+pub record IsDeletedRow (d : Deletion) (row : DeletedRow) : Type 0 where
+  pub tree : IsTreeOf row.arena.now.width row.arena.now.now (source_before d)
+  pub long : length row.tuple.now ≡ row.arena.now.width
+  pub tuple : row.tuple.now ≡ cell_of d.r.tuple
+  pub all : option_map agg_in row.all ≡ agg_at (eq_by_cmp nat_cmp) d.measures (rows_before d) row.tuple.now
+  pub duplicates : option_map agg_in row.duplicates ≡ agg_at (eq_by_cmp nat_cmp) d.measures (rows_after d) row.tuple.now
   pub few : length (rows_before d) ≤ MAX_ROWS
 
 -- a class that the row is one of
@@ -50,20 +53,32 @@ pub record IsClassNode (d : Deletion) (a : Arena) (b : NodeCell) : Type 0 where
   pub long : length b.cell ≡ a.width
   pub node : cell_at a.now b.node.0 ≡ Some b.cell
 
--- such a class at its prefix before a dimension in which it has Any
-pub record IsPrefixNode (d : Deletion) (a : Arena) (u : Cell ℕ) (i number : ℕ) : Type 0 where
-  pub class : IsClass d u
-  pub long : length u ≡ a.width
-  pub any : slice_get u i ≡ Some None
-  pub dim : i < length u
-  pub front : cell_at a.now number ≡ Some (cell_prefix i u)
+-- the row that goes, with such a class
+pub record IsClassOfRow (d : Deletion) (row : DeletedRow) (b : NodeCell) : Type 0 where
+  pub gone : IsDeletedRow d row
+  pub class : IsClassNode d row.arena.now b
 
--- what is known of such a class: what its rows come to before, and perhaps afterwards
+-- what is known of such a class: the row, and what the class's rows come to before, and perhaps afterwards
 pub record IsKnown (d : Deletion) (class : Class) : Type 0 where
+  pub gone : IsDeletedRow d class.row.now
   pub is : IsClass d class.cell
+  pub long : length class.cell ≡ class.row.now.arena.now.width
   pub whole : option_map agg_in class.whole ≡ agg_at (eq_by_cmp nat_cmp) d.measures (rows_before d) class.cell
   pub less : IfSome class.less
       (λ agg. Some (agg_in agg) ≡ agg_at (eq_by_cmp nat_cmp) d.measures (rows_after d) class.cell)
+
+-- the number is that of such a class's prefix before a dimension in which the class has Any
+pub record IsPrefixNode (d : Deletion) (class : Class) (i number : ℕ) : Type 0 where
+  pub known : IsKnown d class
+  pub any : slice_get class.cell i ≡ Some None
+  pub dim : i < length class.cell
+  pub front : cell_at class.row.now.arena.now.now number ≡ Some (cell_prefix i class.cell)
+
+-- the part of a cell by the tuple's value in dimension i is planned for
+abbrev pub IsPartPlanned : Deletion → DeletedRow → List (ℕ × NodePlan) → Cell ℕ → ℕ → Type 0
+IsPartPlanned d row plan u i = (v q : ℕ) (w : Cell ℕ) → slice_index_or row.tuple.now i None ≡ Some v
+    → closure_in (source_before d) (with_value u i v) ≡ Some w → cell_at row.arena.now.now q ≡ Some w
+    → IsRest d.measures (rows_after d) w (planned_rest_in plan q)
 
 -- a search for the cell goes on from the number after dimension i
 abbrev pub GoesOn : Deletion → Tree ℕ → Cell ℕ → ℕ → ℕ → Type 0
@@ -103,12 +118,13 @@ pub record MaySettle (d : Deletion) (u : Cell ℕ) (rest : Rest) : Type 0 where
   pub all : rest.agg.count ≡ length (cov (eq_by_cmp nat_cmp) (rows_after d) u)
       → IsRest d.measures (rows_after d) u (Some rest)
 
--- a node that generalizes the tuple, all greater ones being planned for
-pub record IsNextPlanned (d : Deletion) (a : Arena) (t : Cell ℕ) (plan : List (ℕ × NodePlan))
+-- the row that goes, with a node that generalizes its tuple, all greater ones being planned for
+pub record IsNextPlanned (d : Deletion) (row : DeletedRow) (plan : List (ℕ × NodePlan))
     (b : NodeCell) : Type 0 where
-  pub cell : cell_at a.now b.node.0 ≡ Some b.cell
-  pub low : leq nat_eq b.cell t ≡ true
-  pub planned : AreGreaterPlanned d a.now t b.cell plan
+  pub gone : IsDeletedRow d row
+  pub cell : cell_at row.arena.now.now b.node.0 ≡ Some b.cell
+  pub low : leq nat_eq b.cell row.tuple.now ≡ true
+  pub planned : AreGreaterPlanned d row.arena.now.now row.tuple.now b.cell plan
 
 -- what is left of a node's rows afterwards
 pub record IsRestOfNode (d : Deletion) (a : Arena) (b : NodeCell) (rest : Option Rest) : Type 0 where

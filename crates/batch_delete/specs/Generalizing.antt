@@ -5,7 +5,7 @@ use Rattle.std.specs.Prelude.{slice_index_or}
 use Rattle.cell_core.specs.Entry.{IsCode}
 use Rattle.cube_defs.specs.Cell.{Cell, depth, leq, with_value}
 use Rattle.cube_defs.specs.Tree.{Tree, cell_at}
-use Rattle.qc_arena.specs.Map.{Arena}
+use Rattle.qc_arena.specs.Map.{Arena, is_open}
 use Rattle.qc_arena.specs.RecordReaders.{record_at}
 use Rattle.tree_search.specs.Found.{IsTree}
 use Rattle.batch_delete.specs.declared.generalizing.NodeCell.{NodeCell}
@@ -54,6 +54,11 @@ pub record AreGeneralizing (tree : Tree ℕ) (tuple : Cell ℕ) (dim : ℕ) (lis
       × (b : NodeCell) × (slice_get list k ≡ Some b) × (b.node.0 ≡ q)
   pub order : (j k : ℕ) (b c : NodeCell) → j < k → slice_get list j ≡ Some b → slice_get list k ≡ Some c
       → leq nat_eq c.cell b.cell ≡ false
+
+-- in an open batch the nodes of the list may be touched
+pub record CanTouchAll (a : Arena) (list : List NodeCell) : Type 0 where
+  pub opened : is_open a ≡ true
+  pub there : (k : ℕ) (b : NodeCell) → slice_get list k ≡ Some b → IsSome (map.get a.now b.node.0)
 
 -- the list with the child of p with a value in a dimension, where that is a node
 abbrev pub AddsChild : Tree ℕ → ℕ → ℕ → Cell ℕ → List NodeCell → List NodeCell → Type 0

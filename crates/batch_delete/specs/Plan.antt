@@ -121,8 +121,9 @@ pub record ChangesOnly (k : ℕ) (before after : Arena) : Type 0 where
   pub touched : (q : ℕ) → is_touched after q ≡ is_touched before q
   pub frame : frame after ≡ frame before
 
--- an edge may get this target, or go if there is none
-pub record CanRedirect (a : Arena) (x : Edge ℕ ℕ) (to : Option NodeNo) : Type 0 where
+-- an edge of the node may get this target, or go if there is none
+pub record CanRedirect (a : Arena) (k : ℕ) (x : Edge ℕ ℕ) (to : Option NodeNo) : Type 0 where
+  pub change : CanChange a k
   pub target : IfSome to (λ t. IsSome (map.get a.now t.0))
   pub dim : x.dim < a.width
   pub code : IsCode x.value

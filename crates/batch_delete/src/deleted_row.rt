@@ -1,13 +1,13 @@
 // The deleted row and its classes.
 ghost use Rattle.std.specs.Prelude.{◌+◌, ◌≡◌, ◌≤◌};
-ghost use Rattle.batch_delete.specs.DeletedRow.{IsClassNode, IsDeletedRow, IsKnown};
+ghost use Rattle.batch_delete.specs.DeletedRow.{IsClassOfRow, IsKnown};
 ghost use Rattle.batch_delete.specs.Rests.{Deletion};
 
 use crate::generalizing::NodeCell;
-use crate::subtracting::{agg_without_row, class_at};
+use crate::subtracting::agg_without_row;
 use aggregates::Agg;
 use cell_core::{Cell, Steps};
-use qc_arena::QcArena;
+use qc_arena::{Nodes, QcArena};
 use std::sync::ledger::Ledger;
 
 /// What is known of the deleted row: the tree before the deletion, its tuple, the aggregate of all
@@ -23,29 +23,30 @@ pub(crate) struct DeletedRow<'a> {
 /// A class of the deleted row: its cell and its aggregate. `less` is the aggregate without the row,
 /// if it follows without a look at each row.
 #[derive(Drop)]
-pub(crate) struct Class {
+pub(crate) struct Class<'a> {
+    pub row: &'a DeletedRow<'a>,
     pub cell: Cell,
     pub whole: Option<Agg>,
     pub less: Option<Agg>,
 }
 
 /// The class of a node.
-pub(crate) fn class_at_node<L: Ledger>(
-    row: &DeletedRow<'_>,
+pub(crate) fn class_at_node<'a, L: Ledger>(
+    row: &'a DeletedRow<'a>,
     below: &NodeCell,
     steps: &mut Steps<L>,
-) -> Class
+) -> Class<'a>
     ghost d: { Deletion }
-    requires row { IsDeletedRow d row.now.arena.now row.now.tuple.now row.now.all
-        row.now.duplicates }
-    requires class { IsClassNode d row.now.arena.now below.now }
+    requires { IsClassOfRow d row.now below.now }
     ensures class { IsKnown d result }
+    ensures row { result.row.now ≡ row.now }
     ensures cell { result.cell ≡ below.now.cell }
     ensures steps { steps.new ≤ steps.old + 1 }
 {
-    let whole = class_at(row.arena, below, steps);
+    let whole = row.arena.class(below.node, steps);
     let less = agg_without_row(row, &below.cell, whole);
     Class {
+        row,
         cell: below.cell.copy(),
         whole,
         less,

@@ -3,10 +3,10 @@ ghost use Rattle.std.specs.FinMap as map;
 ghost use Rattle.std.specs.Prelude.{IfNone, IfOk, IfSome, IsSome, OnOk, Some, [], false, length, slice_index_or, slice_get, true, ℕ, ◌++◌, ◌∷◌, ◌*◌, ◌+◌, ◌≡◌, ◌≤◌};
 ghost use Rattle.cube_defs.specs.Cell.{with_value};
 ghost use Rattle.cube_defs.specs.Tree.{cell_at};
-ghost use Rattle.qc_arena.specs.Map.{frame, is_open, is_touched};
+ghost use Rattle.qc_arena.specs.Map.{frame, is_touched};
 ghost use Rattle.qc_arena.specs.RecordReaders.{record_at};
 ghost use Rattle.batch_delete.specs.declared.generalizing.NodeCell.{NodeCell};
-ghost use Rattle.batch_delete.specs.Generalizing.{AddsChild, AddsChildren, AreGeneralizing, AreParents, CanHaveChild, HasParent, IsAsWide, no_node_cell};
+ghost use Rattle.batch_delete.specs.Generalizing.{AddsChild, AddsChildren, AreGeneralizing, AreParents, CanHaveChild, CanTouchAll, HasParent, IsAsWide, no_node_cell};
 
 use crate::Memory;
 use cell_core::{Cell, Code, Entry, NodeNo, Steps};
@@ -164,9 +164,7 @@ pub(crate) fn touch_all<L: Ledger>(
     list: &Vec<NodeCell>,
     steps: &mut Steps<L>,
 ) -> Result<(), Memory>
-    requires opened { is_open arena.old ≡ true }
-    requires there { (k : ℕ) (b : NodeCell) → slice_get list.now.items k ≡ Some b
-        → IsSome (map.get arena.old.now b.node.0) }
+    requires { CanTouchAll arena.old list.now.items }
     ensures touched { OnOk result ((k : ℕ) (b : NodeCell) → slice_get list.now.items k ≡ Some b
         → is_touched arena.new b.node.0 ≡ true) }
     ensures only { OnOk result ((q : ℕ) → is_touched arena.new q ≡ true

@@ -10,7 +10,7 @@ ghost use Rattle.cube_laws.specs.Total.{join_aggs, join_cells};
 ghost use Rattle.tree_search.specs.Found.{closure_in};
 ghost use Rattle.batch_delete.specs.declared.generalizing.NodeCell.{NodeCell};
 ghost use Rattle.batch_delete.specs.Generalizing.{AreGeneralizing};
-ghost use Rattle.batch_delete.specs.DeletedRow.{ArePartOf, HasFound, IsClassNode, IsDeletedRow, IsKnown, IsPartLabel, IsPrefixNode, IsSearch};
+ghost use Rattle.batch_delete.specs.DeletedRow.{ArePartOf, HasFound, IsClassOfRow, IsKnown, IsPartLabel, IsPartPlanned, IsPrefixNode, IsSearch};
 ghost use Rattle.batch_delete.specs.Plan.{planned_rest_in, prefix_labels, is_value, last_any_of};
 ghost use Rattle.batch_delete.specs.Rests.{CanJoin, Deletion, IsRest, IsTotal, agg_of_rest, other_values, rows_after, rows_before, shared_of, source_before};
 
@@ -136,31 +136,26 @@ fn own_rest<L: Ledger>(
 // The rest of those rows of a class that have the tuple's value in a dimension of Any. `front` is
 // the node of the class's prefix before that dimension.
 fn own_part<L: Ledger>(
-    row: &DeletedRow<'_>,
+    class: &Class<'_>,
     plan: &IndexMap<u32, NodePlan>,
-    cell: &Cell,
     dim: u8,
     front: NodeNo,
     steps: &mut Steps<L>,
 ) -> Option<Rest>
     ghost d: { Deletion }
-    requires row { IsDeletedRow d row.now.arena.now row.now.tuple.now row.now.all
-        row.now.duplicates }
-    requires front { IsPrefixNode d row.now.arena.now cell.now dim front.0 }
-    requires planned { (v q : ℕ) (w : _) → slice_index_or row.now.tuple.now dim None ≡ Some v
-        → closure_in (source_before d) (with_value cell.now dim v) ≡ Some w →
-        cell_at row.now.arena.now.now q ≡ Some w
-        → IsRest d.measures (rows_after d) w (planned_rest_in plan.now.entries q) }
-    ensures rest { (v : ℕ) → slice_index_or row.now.tuple.now dim None ≡ Some v
-        → IsRest d.measures (rows_after d) (with_value cell.now dim v) result }
-    ensures steps { steps.new ≤ steps.old + (2 * length cell.now + 1) }
+    requires front { IsPrefixNode d class.now dim front.0 }
+    requires planned { IsPartPlanned d class.now.row.now plan.now.entries class.now.cell dim }
+    ensures rest { (v : ℕ) → slice_index_or class.now.row.now.tuple.now dim None ≡ Some v
+        → IsRest d.measures (rows_after d) (with_value class.now.cell dim v) result }
+    ensures steps { steps.new ≤ steps.old + (2 * length class.now.cell + 1) }
 {
+    let row = class.row;
     match row.tuple.get(dim) {
         Entry::Any => None,
         Entry::Is(code) => match row.arena.edge(front, dim, code, steps) {
             None => None,
             Some(target) => {
-                let mut more = cell.copy();
+                let mut more = class.cell.copy();
                 more.set(dim, Entry::Is(code));
                 own_rest(row.arena, plan, &more, dim, target, steps)
             }
@@ -199,34 +194,33 @@ fn with_part<L: Ledger>(
 
 // The rest joined with the rows of a label, unless the label has the tuple's value.
 fn with_label<L: Ledger>(
-    row: &DeletedRow<'_>,
-    cell: &Cell,
+    class: &Class<'_>,
     label: (u8, Code, NodeNo),
     rest: Option<Rest>,
     steps: &mut Steps<L>,
 ) -> Option<Rest>
     ghost d: { Deletion }
-    requires row { IsDeletedRow d row.now.arena.now row.now.tuple.now row.now.all
-        row.now.duplicates }
-    requires label { IsPartLabel d row.now.arena.now cell.now label.0 label.1 label.2.0 }
-    requires few { is_value (slice_index_or row.now.tuple.now label.0 None) label.1 ≡ false
-        → (part : _) →
-        IsRest d.measures (rows_before d) (with_value cell.now label.0 label.1) (Some part)
+    requires class { IsKnown d class.now }
+    requires label { IsPartLabel d class.now.row.now.arena.now class.now.cell label.0 label.1
+        label.2.0 }
+    requires few { is_value (slice_index_or class.now.row.now.tuple.now label.0 None) label.1
+        ≡ false → (part : _) →
+        IsRest d.measures (rows_before d) (with_value class.now.cell label.0 label.1) (Some part)
         → IfSome rest (λ some. some.agg.count + part.agg.count ≤ MAX_ROWS) }
-    requires rest { ArePartOf d cell.now rest }
-    ensures rest { ArePartOf d cell.now result }
+    requires rest { ArePartOf d class.now.cell rest }
+    ensures rest { ArePartOf d class.now.cell result }
     ensures total { (v : ℕ) (w : _) (vs : List ℕ)
-        → slice_index_or row.now.tuple.now label.0 None ≡ Some v
-        → IsTotal d cell.now label.0 v w vs rest →
-        IsTotal d cell.now label.0 v w
+        → slice_index_or class.now.row.now.tuple.now label.0 None ≡ Some v
+        → IsTotal d class.now.cell label.0 v w vs rest →
+        IsTotal d class.now.cell label.0 v w
         (vs ++ other_values label.0 v (record {
           dim = label.0;
           value = label.1;
           target
               = label.2.0;
         } ∷ [])) result }
-    ensures steps { (v : ℕ) → slice_index_or row.now.tuple.now label.0 None ≡ Some v →
-        steps.new ≤ steps.old + (4 * length cell.now + 5) * length
+    ensures steps { (v : ℕ) → slice_index_or class.now.row.now.tuple.now label.0 None ≡ Some v →
+        steps.new ≤ steps.old + (4 * length class.now.cell + 5) * length
         (other_values label.0 v (record {
           dim = label.0;
           value = label.1;
@@ -234,46 +228,43 @@ fn with_label<L: Ledger>(
               = label.2.0;
         } ∷ [])) }
 {
-    if has(row.tuple, label.0, label.1) {
+    if has(class.row.tuple, label.0, label.1) {
         return rest;
     }
-    with_part(row.arena, cell, label, rest, steps)
+    with_part(class.row.arena, &class.cell, label, rest, steps)
 }
 
 // The rest of a class. It begins with the rows that have the tuple's value in the dimension. Then
 // the rows of one label after another are joined, until the rest of the whole class is settled.
 fn with_labels<L: Ledger>(
-    row: &DeletedRow<'_>,
-    class: &Class,
+    class: &Class<'_>,
     dim: u8,
     front: NodeNo,
     rest: Option<Rest>,
     steps: &mut Steps<L>,
 ) -> Option<Rest>
     ghost d: { Deletion }
-    requires row { IsDeletedRow d row.now.arena.now row.now.tuple.now row.now.all
-        row.now.duplicates }
-    requires class { IsKnown d class.now }
-    requires front { IsPrefixNode d row.now.arena.now class.now.cell dim front.0 }
-    requires rest { (v : ℕ) → slice_index_or row.now.tuple.now dim None ≡ Some v
+    requires front { IsPrefixNode d class.now dim front.0 }
+    requires rest { (v : ℕ) → slice_index_or class.now.row.now.tuple.now dim None ≡ Some v
         → IsRest d.measures (rows_after d) (with_value class.now.cell dim v) rest }
     ensures rest { IsRest d.measures (rows_after d) class.now.cell result }
     ensures steps { steps.new + (4 * length class.now.cell + 5)
         ≤ steps.old + (3 + (4 * length class.now.cell + 7) * length
-        (record_at row.now.arena.now.now front.0).edges) }
+        (record_at class.now.row.now.arena.now.now front.0).edges) }
 {
     let mut all = rest;
-    let first = first_label(row.arena, front, dim, steps);
-    'labels: for k in first..row.arena.edge_count(front, steps) {
-        let label = row.arena.edge_at(front, k, steps);
+    let arena = class.row.arena;
+    let first = first_label(arena, front, dim, steps);
+    'labels: for k in first..arena.edge_count(front, steps) {
+        let label = arena.edge_at(front, k, steps);
         if label.0 != dim {
             return all;
         }
-        match settled(row, class, &all) {
+        match settled(class, &all) {
             Some(done) => return Some(done),
             None => {}
         }
-        all = with_label(row, &class.cell, label, all, steps);
+        all = with_label(class, label, all, steps);
     }
     all
 }
@@ -287,24 +278,19 @@ fn all_parts<L: Ledger>(
     steps: &mut Steps<L>,
 ) -> Option<Rest>
     ghost d: { Deletion }
-    requires row { IsDeletedRow d row.now.arena.now row.now.tuple.now row.now.all
-        row.now.duplicates }
-    requires class { IsClassNode d row.now.arena.now below.now }
+    requires class { IsClassOfRow d row.now below.now }
     requires last { IsLastAny below.now.cell dim }
-    requires planned { (v q : ℕ) (w : _) → slice_index_or row.now.tuple.now dim None ≡ Some v →
-        closure_in (source_before d) (with_value below.now.cell dim v) ≡ Some w
-        → cell_at row.now.arena.now.now q ≡ Some w →
-        IsRest d.measures (rows_after d) w (planned_rest_in plan.now.entries q) }
+    requires planned { IsPartPlanned d row.now plan.now.entries below.now.cell dim }
     ensures rest { IsRest d.measures (rows_after d) below.now.cell result }
     ensures steps { (q : ℕ)
         → cell_at row.now.arena.now.now q ≡ Some (cell_prefix dim below.now.cell) →
         steps.new ≤ steps.old + ((3 * length below.now.cell + 4)
         + (4 * length below.now.cell + 7) * length (record_at row.now.arena.now.now q).edges) }
 {
-    let class = class_at_node(row, below, steps);
+    let class = class_at_node(&*row, below, steps);
     let front = prefix_node(row.arena, below, dim, steps);
-    let own = own_part(row, plan, &below.cell, dim, front, steps);
-    with_labels(row, &class, dim, front, own, steps)
+    let own = own_part(&class, plan, dim, front, steps);
+    with_labels(&class, dim, front, own, steps)
 }
 
 /// The rest of a class that generalizes the tuple.
@@ -315,14 +301,9 @@ pub(crate) fn class_after<L: Ledger>(
     steps: &mut Steps<L>,
 ) -> Option<Rest>
     ghost d: { Deletion }
-    requires row { IsDeletedRow d row.now.arena.now row.now.tuple.now row.now.all
-        row.now.duplicates }
-    requires class { IsClassNode d row.now.arena.now below.now }
-    requires planned { (i v q : ℕ) (w : _) → slice_get below.now.cell i ≡ Some None
-        → slice_index_or row.now.tuple.now i None ≡ Some v →
-        closure_in (source_before d) (with_value below.now.cell i v) ≡ Some w
-        → cell_at row.now.arena.now.now q ≡ Some w →
-        IsRest d.measures (rows_after d) w (planned_rest_in plan.now.entries q) }
+    requires class { IsClassOfRow d row.now below.now }
+    requires planned { (i : ℕ) → slice_get below.now.cell i ≡ Some None
+        → IsPartPlanned d row.now plan.now.entries below.now.cell i }
     ensures rest { IsRest d.measures (rows_after d) below.now.cell result }
     ensures steps { (list : List NodeCell)
         → AreGeneralizing row.now.arena.now.now row.now.tuple.now (length row.now.tuple.now) list →

@@ -95,9 +95,7 @@ fn rest_of<L: Ledger>(
     steps: &mut Steps<L>,
 ) -> Option<Rest>
     ghost d: { Deletion }
-    requires row { IsDeletedRow d row.now.arena.now row.now.tuple.now row.now.all
-        row.now.duplicates }
-    requires next { IsNextPlanned d row.now.arena.now row.now.tuple.now plan.now.entries below.now }
+    requires { IsNextPlanned d row.now plan.now.entries below.now }
     ensures rest { IsRest d.measures (rows_after d) below.now.cell result }
     ensures steps { (list : List NodeCell)
         → AreGeneralizing row.now.arena.now.now row.now.tuple.now (length row.now.tuple.now) list →
@@ -147,9 +145,7 @@ fn node_plan_of<L: Ledger>(
     steps: &mut Steps<L>,
 ) -> NodePlan
     ghost d: { Deletion }
-    requires row { IsDeletedRow d row.now.arena.now row.now.tuple.now row.now.all
-        row.now.duplicates }
-    requires next { IsNextPlanned d row.now.arena.now row.now.tuple.now plan.now.entries below.now }
+    requires { IsNextPlanned d row.now plan.now.entries below.now }
     ensures after { IsRest d.measures (rows_after d) below.now.cell result.after }
     ensures heir { IsNumberOfCell row.now.arena.now.now (option_map number result.heir)
         (option_map (cell_prefix (cells.depth below.now.cell))
@@ -191,8 +187,7 @@ fn plan_row<L: Ledger>(
     steps: &mut Steps<L>,
 ) -> Result<(), Memory>
     ghost d: { Deletion }
-    requires row { IsDeletedRow d row.now.arena.now row.now.tuple.now row.now.all
-        row.now.duplicates }
+    requires row { IsDeletedRow d row.now }
     requires below { AreGeneralizing row.now.arena.now.now row.now.tuple.now
         (length row.now.tuple.now) list.now.items }
     ensures planned { OnOk result

@@ -105,8 +105,7 @@ fn redirect_edge<L: Ledger>(
     to: Option<NodeNo>,
     steps: &mut Steps<L>,
 ) -> Result<(), Memory>
-    requires change { CanChange arena.old node.0 }
-    requires edge { CanRedirect arena.old
+    requires { CanRedirect arena.old node.0
         (record { dim = edge.0; value = edge.1; target = edge.2.0 }) to }
     ensures here { OnOk result (map.get arena.new.now node.0
         ≡ option_map (with_target (record { dim = edge.0; value = edge.1; target = edge.2.0 })

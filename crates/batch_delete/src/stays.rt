@@ -1,42 +1,50 @@
 // Whether a class stays when the row is deleted.
 ghost use Rattle.std.specs.Prelude.{IfSome, None, Some, false, length, slice_get, true, ℕ, ◌+◌, ◌<◌, ◌≡◌};
-ghost use Rattle.batch_delete.specs.DeletedRow.{IsDeletedRow, IsKnown, MaySettle};
+ghost use Rattle.batch_delete.specs.DeletedRow.{IsKnown, MaySettle};
 ghost use Rattle.batch_delete.specs.Rests.{Deletion, IsRest, rows_after};
 
 use crate::cells::has;
-use crate::deleted_row::{Class, DeletedRow};
+use crate::deleted_row::Class;
 use crate::parts::Rest;
 use aggregates::Agg;
 use cell_core::{Cell, Entry};
 
+/// The values that some rows of a class share, beside the class's cell and the deleted tuple. All
+/// three are as wide.
+#[derive(Drop)]
+struct Shared<'a> {
+    tuple: &'a Cell,
+    cell: &'a Cell,
+    values: &'a Cell,
+    ghost tuple_wide: { length tuple.now ≡ length cell.now },
+    ghost values_wide: { length values.now ≡ length cell.now },
+}
+
 // Whether some rows of a class share a value in the dimension where the class has Any, other than
 // the tuple's.
-fn is_new(tuple: &Cell, cell: &Cell, shared: &Cell, dim: u8) -> bool
-    requires cell { dim < length cell.now }
-    requires tuple { length tuple.now ≡ length cell.now }
-    requires shared { length shared.now ≡ length cell.now }
-    ensures { result ≡ false → (v : ℕ) → slice_get cell.now dim ≡ Some None
-        → slice_get shared.now dim ≡ Some (Some v) →
-        slice_get tuple.now dim ≡ Some (Some v) }
+fn is_new(shared: &Shared<'_>, dim: u8) -> bool
+    requires { dim < length shared.now.cell.now }
+    ensures { result ≡ false → (v : ℕ) → slice_get shared.now.cell.now dim ≡ Some None
+        → slice_get shared.now.values.now dim ≡ Some (Some v) →
+        slice_get shared.now.tuple.now dim ≡ Some (Some v) }
 {
-    match cell.get(dim) {
+    match shared.cell.get(dim) {
         Entry::Is(_) => false,
-        Entry::Any => match shared.get(dim) {
+        Entry::Any => match shared.values.get(dim) {
             Entry::Any => false,
-            Entry::Is(code) => !has(tuple, dim, code),
+            Entry::Is(code) => !has(shared.tuple, dim, code),
         },
     }
 }
 
 // Whether all values that some rows of a class share, beyond the class's own, are the tuple's.
-fn is_settled(tuple: &Cell, cell: &Cell, shared: &Cell) -> bool
-    requires tuple { length tuple.now ≡ length cell.now }
-    requires shared { length shared.now ≡ length cell.now }
-    ensures { result ≡ true → (k v : ℕ) → slice_get cell.now k ≡ Some None
-        → slice_get shared.now k ≡ Some (Some v) → slice_get tuple.now k ≡ Some (Some v) }
+fn is_settled(shared: &Shared<'_>) -> bool
+    ensures { result ≡ true → (k v : ℕ) → slice_get shared.now.cell.now k ≡ Some None
+        → slice_get shared.now.values.now k ≡ Some (Some v) →
+        slice_get shared.now.tuple.now k ≡ Some (Some v) }
 {
-    'dims: for dim in 0..cell.dims() {
-        if is_new(tuple, cell, shared, dim) {
+    'dims: for dim in 0..shared.cell.dims() {
+        if is_new(shared, dim) {
             return false;
         }
     }
@@ -56,11 +64,8 @@ fn are_all_but_one(some: &Rest, whole: Option<Agg>) -> bool
 
 /// The rest of a class, if some of its rows settle it. They do if they are all rows but the deleted
 /// one. They also do if they show that the class stays, and its aggregate without the row is known.
-pub(crate) fn settled(row: &DeletedRow<'_>, class: &Class, some: &Option<Rest>) -> Option<Rest>
+pub(crate) fn settled(class: &Class<'_>, some: &Option<Rest>) -> Option<Rest>
     ghost d: { Deletion }
-    requires row { IsDeletedRow d row.now.arena.now row.now.tuple.now row.now.all
-        row.now.duplicates }
-    requires long { length class.now.cell ≡ row.now.arena.now.width }
     requires class { IsKnown d class.now }
     requires rest { IfSome some.now (λ rest. MaySettle d class.now.cell rest) }
     ensures rest { IfSome result
@@ -75,7 +80,12 @@ pub(crate) fn settled(row: &DeletedRow<'_>, class: &Class, some: &Option<Rest>) 
             match class.less {
                 None => None,
                 Some(agg) => {
-                    if is_settled(row.tuple, &class.cell, &rest.shared) {
+                    let shared = Shared {
+                        tuple: class.row.tuple,
+                        cell: &class.cell,
+                        values: &rest.shared,
+                    };
+                    if is_settled(&shared) {
                         Some(Rest {
                             shared: class.cell.copy(),
                             agg,

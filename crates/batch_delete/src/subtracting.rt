@@ -85,27 +85,11 @@ fn with_twins(duplicates: Option<Agg>, others: Agg) -> Agg
     }
 }
 
-/// The aggregate of a class.
-pub(crate) fn class_at<L: Ledger>(
-    arena: &QcArena,
-    class: &NodeCell,
-    steps: &mut Steps<L>,
-) -> Option<Agg>
-    ghost d: { Deletion }
-    requires { IsClassNode d arena.now class.now }
-    ensures agg { option_map agg_in result ≡ agg_at (eq_by_cmp nat_cmp) d.measures
-        (rows_before d) class.now.cell }
-    ensures steps { steps.new ≤ steps.old + 1 }
-{
-    arena.class(class.node, steps)
-}
-
 /// The aggregate of a class without the row. None if a row with its tuple has the MIN or the MAX of
 /// any measure.
 pub(crate) fn agg_without_row(row: &DeletedRow<'_>, cell: &Cell, whole: Option<Agg>) -> Option<Agg>
     ghost d: { Deletion }
-    requires row { IsDeletedRow d row.now.arena.now row.now.tuple.now row.now.all
-        row.now.duplicates }
+    requires row { IsDeletedRow d row.now }
     requires below { defs.covers (eq_by_cmp nat_cmp) cell.now d.r ≡ true }
     requires whole { option_map agg_in whole ≡ agg_at (eq_by_cmp nat_cmp) d.measures
         (rows_before d) cell.now }

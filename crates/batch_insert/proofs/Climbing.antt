@@ -4,6 +4,8 @@ use Rattle.std.proofs.Common.{not, ◌&&◌, Option, Some, None, IsSome, length,
 use Rattle.std.proofs.Common.{subst, ◌∙◌, true≢false, arith, eqb-true}
 use Rattle.std.proofs.lemmas.Nat.{pow_pos}
 use Rattle.std.proofs.lemmas.Bool.{false_from_ne_true}
+use Rattle.std.proofs.Math.Logic.{∥∥₁_elim}
+use Rattle.std.proofs.Props.{props}
 use Rattle.std.specs.Prelude.{IfSome, IfNone}
 use Rattle.std.specs.Cmp.{nat_cmp_total}
 use Rattle.std.specs.FinMap as map
@@ -23,6 +25,7 @@ use Rattle.tree_laws.specs.Labels.{target_after_row}
 use Rattle.tree_laws.specs.Walk.{last_label}
 use Rattle.tree_laws.proofs.CallerLemmas.{label_none, label_some, parent_is, depth-cell_prefix-le, get-cell_prefix, cell_prefix-meet}
 use Rattle.tree_laws.proofs.CallerLemmas.{some_same, there}
+use Rattle.tree_search.specs.Found.{IsTree}
 use Rattle.tree_search.proofs.CallerLemmas as climbed
 use Rattle.tree_search.proofs.CallerLemmas.{cell_of, cell_there, there_is}
 use Rattle.batch_insert.specs.Masks.{Shares}
@@ -35,7 +38,7 @@ use Rattle.batch_insert.proofs.Masks.{agrees, any_met, apart_at, bit_for, flat_m
 
 module _ (t : Cell ℕ) (a : Arena) (ready : IsReady a) (wide : length t ≡ a.width) where
   pub long_at : (k : ℕ) → IsSome (map.get a.now k) → length (record_at a.now k).cell ≡ length t
-  long_at k h = climbed.wide a.width a.now ready.tree.0 ready.tree.1 k h ∙ sym wide
+  long_at k h = ∥∥₁_elim ready.tree (hlevel props) (λ s. climbed.wide a.width a.now s.0 s.1 k h ∙ sym wide)
 
   -- what the nodes k and m share with t, where m is k's parent
   pub record IsAbove (k j v m : ℕ) : Type 0 where
@@ -50,7 +53,11 @@ module _ (t : Cell ℕ) (a : Arena) (ready : IsReady a) (wide : length t ≡ a.w
     label = label_some (record_at a.now k).cell j v e
 
     pub within : j < length t
-    within = let l = climbed.last_within a.width a.now ready.tree.0 ready.tree.1 k h j v e in omega (arith, l, wide)
+    within = ∥∥₁_elim ready.tree (hlevel props) (λ s. let l = climbed.last_within a.width a.now s.0 s.1 k h j v e in
+        omega (arith, l, wide))
+
+    pub has_parent : (o : Option NodeNo) → option_map number o ≡ (record_at a.now k).parent → IsSome o
+    has_parent o p = ∥∥₁_elim ready.tree (hlevel props) (λ s. climbed.has_parent a.width a.now s.0 s.1 k h j v e number o p)
 
     pub bit_within : bit_for t j v ≤ mask (meet nat_eq (record_at a.now k).cell t)
     bit_within = let e = last_mask (record_at a.now k).cell t j v label.0 label.1 (long_at k h) in omega (arith, e)
@@ -60,8 +67,8 @@ module _ (t : Cell ℕ) (a : Arena) (ready : IsReady a) (wide : length t ≡ a.w
     above o x p q =
         let up : option_map (cell_at a.now) (record_at a.now k).parent
         ≡ Some (Some (cell_prefix j (record_at a.now k).cell))
-        = parent_is nat_cmp_total map.nat_cmp-IsAntisymmetric a.width ready.tree.0.measures ready.tree.0.rows
-        ready.tree.1.wide a.now ready.tree.1.canonical k (record_at a.now k) (there_is a.now k h) j label.0 in
+        = ∥∥₁_elim ready.tree (hlevel props) (λ s. parent_is nat_cmp_total map.nat_cmp-IsAntisymmetric a.width
+        s.0.measures s.0.rows s.1.wide a.now s.1.canonical k (record_at a.now k) (there_is a.now k h) j label.0) in
         let is : cell_at a.now x.0 ≡ Some (cell_prefix j (record_at a.now k).cell)
         = some_same (sym (ap (λ y. option_map (cell_at a.now) (option_map number y)) q)
         ∙ ap (option_map (cell_at a.now)) p ∙ up) in
@@ -98,6 +105,12 @@ module _ (t : Cell ℕ) (a : Arena) (ready : IsReady a) (wide : length t ≡ a.w
       (leq nat_eq (record_at a.now k).cell t) (leq nat_eq (record_at a.now m).cell t) h
       (up.below ∙ ap (λ b. b && leq nat_eq (record_at a.now m).cell t) (sym (has_bit (agrees t j v) j bit is)))
 
+-- what a node's record shares with t
+record_shares : (t : Cell ℕ) (a : Arena) (k m : ℕ) (own : Bool) → Shares t a.now m own k
+    → (mask (meet nat_eq (record_at a.now k).cell t) ≡ m) × (leq nat_eq (record_at a.now k).cell t ≡ own)
+record_shares t a k m own s = let c = cell_of a.now k s.cell s.at in
+    (ap (λ x. mask (meet nat_eq x t)) c ∙ s.common, ap (λ x. leq nat_eq x t) c ∙ s.below)
+
 module _ (t : Cell ℕ) (a : Arena) (ready : IsReady a) (wide : length t ≡ a.width) (few : length t ≤ 16) where
   -- what is shared is a mask
   pub common_fits : (k : ℕ) → IsSome (map.get a.now k) → mask (meet nat_eq (record_at a.now k).cell t) < 65536
@@ -121,17 +134,12 @@ module _ (t : Cell ℕ) (a : Arena) (ready : IsReady a) (wide : length t ≡ a.w
         below = b ∙ ap (λ x. own && x) flat.1 ∙ and-true own;
       }
 
-  at_chain : (k m : ℕ) (own : Bool) → Shares t a.now m own k → (mask (meet nat_eq (record_at a.now k).cell t) ≡ m)
-      × (leq nat_eq (record_at a.now k).cell t ≡ own)
-  at_chain k m own s = let c = cell_of a.now k s.cell s.at in
-      (ap (λ x. mask (meet nat_eq x t)) c ∙ s.common, ap (λ x. leq nat_eq x t) c ∙ s.below)
-
   pub shared_there : (o : Option NodeNo) (k : NodeNo) (m : ℕ) (own : Bool) → o ≡ Some k
       → IfSome o (λ x. Shares t a.now m own x.0) → (mask (meet nat_eq (record_at a.now k.0).cell t) ≡ m)
       × (leq nat_eq (record_at a.now k.0).cell t ≡ own)
   shared_there None k m own e h = cc
   shared_there (Some x) k m own e h
-      = at_chain k.0 m own (subst (λ (y : NodeNo). Shares t a.now m own y.0) (some_same e) h)
+      = record_shares t a k.0 m own (subst (λ (y : NodeNo). Shares t a.now m own y.0) (some_same e) h)
 
 -- where a label leads
 abbrev pub target : Cell ℕ → Tree ℕ → ℕ → Option NodeNo → Cell ℕ
@@ -219,17 +227,30 @@ values_are [] full = refl
 values_are (None ∷ t) full = absurd (true≢false (sym (full 0 None (omega arith))))
 values_are (Some v ∷ t) full = ap (λ x. Some v ∷ x) (values_are t (λ j d k. full (suc j) d (omega arith)))
 
-pub some_case : (t : Cell ℕ) (a : Arena) → All (λ e. is_some e ≡ true) t → IsReady a → Case t a
-some_case t a full ready
+pub some_case : (t : Cell ℕ) (a : Arena) → All (λ e. is_some e ≡ true) t → IsTree a.width a.now → Case t a
+some_case t a full tree
     = record {
-      measures = ready.tree.0.measures;
+      measures = tree.0.measures;
       xs = [];
       row = record { id = 0; tuple = values t; amounts = [] };
-      ys
-          = ready.tree.0.rows;
+      ys = tree.0.rows;
       tuple = values_are t full;
-      from = ready.tree.1;
+      from = tree.1;
     }
+
+-- so the next prefix has another value than t, whatever the rows are
+pub shares_next : (t : Cell ℕ) (a : Arena) (wide : length t ≡ a.width) → All (λ e. is_some e ≡ true) t → IsReady a
+    → (p : Cell ℕ) (i m v w : ℕ) (k n : NodeNo) → mask p ≡ m → slice_index_or t i None ≡ Some v → w ≢ v
+    → ((c : Case t a) → IsChain c p i (Some k)) → ((c : Case t a) → IsNext c p i (Some (w, n)))
+    → ((c : Case t a) → IsPrefix c p (suc i)) → Shares t a.now m false n.0
+shares_next t a wide full ready p i m v w k n masked at o leads next front =
+    let is : IsSome (map.get a.now n.0) × (mask (meet nat_eq (record_at a.now n.0).cell t) ≡ m)
+    × (leq nat_eq (record_at a.now n.0).cell t ≡ false) = ∥∥₁_elim ready.tree (hlevel props) (λ s.
+    let c = some_case t a full s in
+    let shares = shares_moved t a wide c p i m v w k n masked at o (leads c) (next c) (front c) in
+    let found = record_shares t a n.0 m false shares in
+    (there a.now n.0 shares.cell shares.at, found.0, found.1)) in
+    record { cell = (record_at a.now n.0).cell; at = cell_there a.now n.0 is.0; common = is.1; below = is.2 }
 
 -- the root
 pub root_shares : (t : Cell ℕ) (a : Arena) (wide : length t ≡ a.width) (o : Option NodeNo) (own : Bool)

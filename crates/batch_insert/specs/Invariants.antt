@@ -6,7 +6,8 @@ use Rattle.cube_defs.specs.Tree.{Edge, cell_at}
 use Rattle.cube_laws.specs.Lists.{Among}
 use Rattle.qc_arena.specs.Edges.{put_edge}
 use Rattle.cell_core.specs.Entry.{IsCode}
-use Rattle.qc_arena.specs.Map.{Arena, CanChange, Known, frame, is_open, is_touched}
+use Rattle.cell_core.specs.declared.cell.NodeNo.{NodeNo}
+use Rattle.qc_arena.specs.Map.{Arena, CanChange, IsPlace, Known, frame, is_open, is_touched, new_record}
 
 -- each edge has a dimension that there is, and leads to a node
 abbrev pub IsClosed : Arena → Type 0
@@ -45,6 +46,17 @@ pub record IsNumber (t : Cell ℕ) (a : Arena) (m k : ℕ) : Type 0 where
 pub record CanRewrite (t : Cell ℕ) (a : Arena) (k : ℕ) : Type 0 where
   pub change : CanChange a k
   pub node : IsGeneralizing t a k
+
+-- in an open batch such a node may be touched
+pub record CanTouch (t : Cell ℕ) (a : Arena) (k : ℕ) : Type 0 where
+  pub opened : is_open a ≡ true
+  pub node : IsGeneralizing t a k
+
+-- in an open batch a node that generalizes t may be added under the parent, or as the root
+pub record CanAddNew (t : Cell ℕ) (a : Arena) (under : Option (NodeNo × ℕ × ℕ)) : Type 0 where
+  pub opened : is_open a ≡ true
+  pub place : IsPlace a.width a.now under
+  pub below : leq nat_eq (new_record a.width a.now under).cell t ≡ true
 
 -- a label with the code v in dimension i may lead to the number k
 pub record CanLead (a : Arena) (i v k : ℕ) : Type 0 where

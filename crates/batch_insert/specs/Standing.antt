@@ -10,8 +10,8 @@ use Rattle.batch_insert.specs.declared.plan.Plan.{Plan}
 use Rattle.batch_insert.specs.declared.shared.OldPrefix.{OldPrefix}
 use Rattle.batch_insert.specs.Cases.{Case, IsChain, IsPrefix, old_closure}
 use Rattle.batch_insert.specs.Masks.{Shares, part}
-use Rattle.batch_insert.specs.Planned.{IsPlan, IsReady}
-use Rattle.batch_insert.specs.Whole.{Grows, HasPlannedNode}
+use Rattle.batch_insert.specs.Planned.{IsReady}
+use Rattle.batch_insert.specs.Whole.{HasPlannedNode}
 
 -- a tuple of values comes to the tree of some rows, which is as wide
 pub record IsInsertion (t : Cell ℕ) (a : Arena) : Type 0 where
@@ -47,8 +47,3 @@ pub record StartsAt (t : Cell ℕ) (a : Arena) (m i : ℕ) (chain : OldPrefix) (
   pub own : chain.is_own ≡ true → (c : Case t a) (u : Cell ℕ) → old_closure c (part t m) ≡ Some u
       → cell_prefix i u ≡ part t m
   pub spot : HasPlannedNode plan (part t m)
-
--- a plan has grown, and is still right
-pub record IsGrown (t : Cell ℕ) (a : Arena) (old new : Plan) : Type 0 where
-  pub plan : IsPlan t a new
-  pub grows : Grows old new

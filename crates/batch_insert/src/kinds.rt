@@ -7,12 +7,12 @@ ghost use Rattle.batch_insert.specs.Numbered.{numbered};
 ghost use Rattle.qc_arena.specs.Map.{with_class, with_forced};
 ghost use Rattle.std.specs.FinMap as map;
 ghost use Rattle.batch_insert.specs.Stages.{HaveEnded};
-ghost use Rattle.batch_insert.specs.Invariants.{CanRewrite, IsInserting, KeepsNodes};
-ghost use Rattle.batch_insert.specs.Planned.{AreAmounts, CanEnd, IsForcedChild, TakesMore, sum_with};
+ghost use Rattle.batch_insert.specs.Invariants.{CanRewrite, KeepsNodes};
+ghost use Rattle.batch_insert.specs.Planned.{CanEndAll, IsForcedChild, TakesMore, sum_with};
 
 use crate::numbers::Numbers;
 use crate::plan::{ForcedChild, NodeKind};
-use crate::tuples::tuple_code;
+use crate::tuples::{InsertedRow, tuple_code};
 use aggregates::Agg;
 use cell_core::{Cell, NodeNo, Steps};
 use qc_arena::{Forced, QcArena};
@@ -21,48 +21,43 @@ use std::sync::ledger::Ledger;
 /// Gives each node its forced child or its class.
 pub(crate) fn set_kinds<L: Ledger>(
     ends: &[NodeKind],
-    tuple: &Cell,
-    amounts: &[i64],
+    row: &InsertedRow<'_>,
     numbers: &Numbers,
     arena: &mut QcArena,
     steps: &mut Steps<L>,
 )
-    requires repair { IsInserting tuple.now arena.old (numbered numbers.now) }
-    requires amounts { AreAmounts amounts.now }
-    requires ends { All
-        (λ e. CanEnd (length tuple.now) (length amounts.now) (numbered numbers.now) e) ends.now }
-    ensures keeps { KeepsNodes tuple.now arena.old arena.new }
-    ensures done { HaveEnded tuple.now amounts.now (numbered numbers.now) ends.now arena.old.now
-        arena.new.now }
+    requires { CanEndAll row.now.tuple.now (length row.now.amounts.now) arena.old
+        (numbered numbers.now) ends.now }
+    ensures keeps { KeepsNodes row.now.tuple.now arena.old arena.new }
+    ensures done { HaveEnded row.now.tuple.now row.now.amounts.now (numbered numbers.now) ends.now
+        arena.old.now arena.new.now }
     ensures steps { steps.new ≤ steps.old + 2 * length ends.now }
 {
     'ends: for k in 0..ends.len() {
-        set_kind(ends[k], tuple, amounts, numbers, arena, steps);
+        set_kind(ends[k], row, numbers, arena, steps);
     }
 }
 
 fn set_kind<L: Ledger>(
     end: NodeKind,
-    tuple: &Cell,
-    amounts: &[i64],
+    row: &InsertedRow<'_>,
     numbers: &Numbers,
     arena: &mut QcArena,
     steps: &mut Steps<L>,
 )
-    requires repair { IsInserting tuple.now arena.old (numbered numbers.now) }
-    requires amounts { AreAmounts amounts.now }
-    requires end { CanEnd (length tuple.now) (length amounts.now) (numbered numbers.now) end }
-    ensures keeps { KeepsNodes tuple.now arena.old arena.new }
-    ensures done { HaveEnded tuple.now amounts.now (numbered numbers.now) (end ∷ []) arena.old.now
-        arena.new.now }
+    requires { CanEndAll row.now.tuple.now (length row.now.amounts.now) arena.old
+        (numbered numbers.now) (end ∷ []) }
+    ensures keeps { KeepsNodes row.now.tuple.now arena.old arena.new }
+    ensures done { HaveEnded row.now.tuple.now row.now.amounts.now (numbered numbers.now)
+        (end ∷ []) arena.old.now arena.new.now }
     ensures steps { steps.new ≤ steps.old + 2 }
 {
     let node = numbers.number_of(end.mask);
     match end.forced {
-        Some(forcing) => set_forced_child(node, forcing, tuple, numbers, arena, steps),
+        Some(forcing) => set_forced_child(node, forcing, row, numbers, arena, steps),
         None => {
-            let agg = with_row(end.before, amounts);
-            mark(node, agg, tuple, arena, steps);
+            let agg = with_row(end.before, row);
+            mark(node, agg, row, arena, steps);
         }
     }
 }
@@ -70,18 +65,17 @@ fn set_kind<L: Ledger>(
 fn set_forced_child<L: Ledger>(
     node: NodeNo,
     forcing: ForcedChild,
-    tuple: &Cell,
+    row: &InsertedRow<'_>,
     numbers: &Numbers,
     arena: &mut QcArena,
     steps: &mut Steps<L>,
 )
-    requires no_any { All (λ entry. is_some entry ≡ true) tuple.now }
-    requires node { CanRewrite tuple.now arena.old node.0 }
-    requires dim { IsForcedChild (length tuple.now) forcing }
+    requires node { CanRewrite row.now.tuple.now arena.old node.0 }
+    requires dim { IsForcedChild (length row.now.tuple.now) forcing }
     requires child { IsSome (numbered numbers.now forcing.child) }
-    ensures keeps { KeepsNodes tuple.now arena.old arena.new }
+    ensures keeps { KeepsNodes row.now.tuple.now arena.old arena.new }
     ensures here { (l : ℕ) × (v : ℕ) × (numbered numbers.now forcing.child ≡ Some l)
-        × (slice_index_or tuple.now forcing.dim None ≡ Some v)
+        × (slice_index_or row.now.tuple.now forcing.dim None ≡ Some v)
         × (map.get arena.new.now node.0
         ≡ option_map (with_forced (Some (record { dim = forcing.dim; value = v; target = l })))
         (map.get arena.old.now node.0)) }
@@ -91,31 +85,36 @@ fn set_forced_child<L: Ledger>(
     let child = numbers.number_of(forcing.child);
     let forced = Forced {
         dim: forcing.dim,
-        code: tuple_code(tuple, forcing.dim),
+        code: tuple_code(row.tuple, forcing.dim),
         child,
     };
     arena.set_forced(node, Some(forced), steps);
 }
 
 // The aggregate with the row: that of the earlier rows, if there are any, and the row's amounts.
-fn with_row(before: Option<Agg>, amounts: &[i64]) -> Agg
-    requires amounts { AreAmounts amounts.now }
-    requires before { IfSome before (λ a. TakesMore (length amounts.now) a) }
-    ensures { agg_in result ≡ sum_with (option_map agg_in before) (agg_of_row amounts.now) }
+fn with_row(before: Option<Agg>, row: &InsertedRow<'_>) -> Agg
+    requires { IfSome before (λ a. TakesMore (length row.now.amounts.now) a) }
+    ensures { agg_in result ≡ sum_with (option_map agg_in before) (agg_of_row row.now.amounts.now) }
 {
     match before {
         Some(agg) => {
             let mut more = agg;
-            more.add_row(amounts);
+            more.add_row(row.amounts);
             more
         }
-        None => Agg::one(amounts),
+        None => Agg::one(row.amounts),
     }
 }
 
-fn mark<L: Ledger>(node: NodeNo, agg: Agg, tuple: &Cell, arena: &mut QcArena, steps: &mut Steps<L>)
-    requires { CanRewrite tuple.now arena.old node.0 }
-    ensures keeps { KeepsNodes tuple.now arena.old arena.new }
+fn mark<L: Ledger>(
+    node: NodeNo,
+    agg: Agg,
+    row: &InsertedRow<'_>,
+    arena: &mut QcArena,
+    steps: &mut Steps<L>,
+)
+    requires { CanRewrite row.now.tuple.now arena.old node.0 }
+    ensures keeps { KeepsNodes row.now.tuple.now arena.old arena.new }
     ensures here { map.get arena.new.now node.0 ≡ option_map (with_class (Some (agg_in agg)))
         (option_map (with_forced None) (map.get arena.old.now node.0)) }
     ensures others { (q : ℕ) → q ≢ node.0 → map.get arena.new.now q ≡ map.get arena.old.now q }

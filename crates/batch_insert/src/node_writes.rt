@@ -4,8 +4,8 @@ ghost use Rattle.std.specs.Prelude.{Err, IfOk, None, OnOk, Some, nat_eq, true, �
 ghost use Rattle.std.specs.Option.{option_map};
 ghost use Rattle.cube_defs.specs.Cell.{leq};
 ghost use Rattle.qc_arena.specs.Edges.{with_edge};
-ghost use Rattle.qc_arena.specs.Map.{IsPlace, is_open, is_touched, new_record};
-ghost use Rattle.batch_insert.specs.Invariants.{CanLead, CanRewrite, IsGeneralizing, KeepsNodes};
+ghost use Rattle.qc_arena.specs.Map.{is_touched, new_record};
+ghost use Rattle.batch_insert.specs.Invariants.{CanAddNew, CanLead, CanRewrite, CanTouch, KeepsNodes};
 
 use crate::Memory;
 use cell_core::{Cell, Code, NodeNo, Steps};
@@ -19,8 +19,7 @@ pub(crate) fn touch_old<L: Ledger>(
     node: NodeNo,
     steps: &mut Steps<L>,
 ) -> Result<(), Memory>
-    requires opened { is_open arena.old ≡ true }
-    requires node { IsGeneralizing tuple.now arena.old node.0 }
+    requires { CanTouch tuple.now arena.old node.0 }
     ensures keeps { KeepsNodes tuple.now arena.old arena.new }
     ensures touched { OnOk result (is_touched arena.new node.0 ≡ true) }
     ensures now { arena.new.now ≡ arena.old.now }
@@ -39,10 +38,7 @@ pub(crate) fn add_new<L: Ledger>(
     under: Option<(NodeNo, u8, Code)>,
     steps: &mut Steps<L>,
 ) -> Result<NodeNo, ArenaRefused>
-    requires opened { is_open arena.old ≡ true }
-    requires under { IsPlace arena.old.width arena.old.now under }
-    requires below { leq nat_eq (new_record arena.old.width arena.old.now under).cell
-        tuple.now ≡ true }
+    requires { CanAddNew tuple.now arena.old under }
     ensures keeps { KeepsNodes tuple.now arena.old arena.new }
     ensures here { IfOk result
         (λ k. map.get arena.new.now k.0 ≡ Some (new_record arena.old.width arena.old.now under)) }

@@ -6,7 +6,6 @@ ghost use Rattle.cube_defs.specs.Cell as defs;
 ghost use Rattle.cube_defs.specs.Tree.{cell_at};
 ghost use Rattle.tree_laws.specs.Labels.{target_after_row};
 ghost use Rattle.batch_insert.specs.Masks.{Shares};
-ghost use Rattle.batch_insert.specs.Standing.{IsInsertion};
 
 use crate::tuples::{Insertion, tuple_code};
 use cell_core::{Code, NodeNo, Steps};
@@ -32,7 +31,6 @@ pub(crate) fn shared<L: Ledger>(
     dim: u8,
     steps: &mut Steps<L>,
 ) -> (u16, bool)
-    requires insertion { IsInsertion insertion.now.tuple.now insertion.now.arena.now }
     requires dim { dim < length insertion.now.tuple.now }
     requires chain { IfSome chain.node
         (λ k. Shares insertion.now.tuple.now insertion.now.arena.now.now mask chain.is_own k.0) }
@@ -54,8 +52,7 @@ pub(crate) fn shared<L: Ledger>(
 
 // The mask of all dimensions up to this one.
 fn prefix_mask(insertion: &Insertion<'_>, dim: u8) -> u16
-    requires insertion { IsInsertion insertion.now.tuple.now insertion.now.arena.now }
-    requires dim { dim < length insertion.now.tuple.now }
+    requires { dim < length insertion.now.tuple.now }
     ensures { result ≡ defs.mask (defs.upto insertion.now.tuple.now dim) }
 {
     let bit = 1 << dim;
@@ -71,7 +68,6 @@ fn common<L: Ledger>(
     node: NodeNo,
     steps: &mut Steps<L>,
 ) -> (u16, bool)
-    requires insertion { IsInsertion insertion.now.tuple.now insertion.now.arena.now }
     requires chain { IfSome chain.node
         (λ k. Shares insertion.now.tuple.now insertion.now.arena.now.now mask chain.is_own k.0) }
     requires node { IsSome (map.get insertion.now.arena.now.now node.0) }
@@ -105,8 +101,7 @@ fn is_at(chain: Option<NodeNo>, at: NodeNo) -> bool
 
 // The dimension's bit if the tuple has the value there, else 0.
 fn bit_of(insertion: &Insertion<'_>, dim: u8, code: Code) -> u16
-    requires insertion { IsInsertion insertion.now.tuple.now insertion.now.arena.now }
-    requires dim { dim < length insertion.now.tuple.now }
+    requires { dim < length insertion.now.tuple.now }
     ensures { result ≡ (if defs.entry_leq nat_eq (Some code)
         (slice_index_or insertion.now.tuple.now dim None) then 2 ^ dim else 0) }
 {

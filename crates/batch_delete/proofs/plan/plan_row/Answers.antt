@@ -21,7 +21,7 @@ node_plan_of-fate-requires g c κs within =
     let had = subst (ArePlanned g.d a.now c.nodes.plan.entries xs) next c.nodes.invariant.planned in
     let greater = greater_planned a.width a.now g.d row.tree c.args.row.now.tuple.now row.long xs are j b at
     c.nodes.plan.entries had in
-    (within, (row, record { cell = are.cells j b at; low = are.below j b at; planned = greater }))
+    (within, record { gone = row; cell = are.cells j b at; low = are.below j b at; planned = greater })
 
 pub nodes-preserved : goal.nodes-preserved
 nodes-preserved g c =

@@ -14,10 +14,10 @@ class_after-requires g c κs within =
     let k = c.args.below.now.node.0 in
     let p = c.args.below.now.cell in
     let t = c.args.row.now.tuple.now in
-    let tree = c.requires.1.0.tree in
-    let row = c.requires.1.0 in
-    let at = c.requires.1.1.cell in
-    let low = c.requires.1.1.low in
+    let tree = c.requires.1.gone.tree in
+    let row = c.requires.1.gone in
+    let at = c.requires.1.cell in
+    let low = c.requires.1.low in
     let class : IsClassNode g.d a c.args.below.now = record {
       tree = tree;
       class = record {
@@ -30,13 +30,10 @@ class_after-requires g c κs within =
     } in (
       within,
       (
-        row,
-        (
-          class,
-          (λ i v q w any has closes there. part_planned a.width a.now g.d tree k p at t row.tuple low
-              (planned_rest_in c.args.plan.now.entries) c.requires.1.1.planned i v q w any
-              (row_value t g.d.r.tuple i v row.tuple has) closes there),
-        ),
+        record { gone = row; class = class },
+        (λ i any v q w has closes there. part_planned a.width a.now g.d tree k p at t row.tuple low
+            (planned_rest_in c.args.plan.now.entries) c.requires.1.planned i v q w any
+            (row_value t g.d.r.tuple i v row.tuple has) closes there),
       ),
     )
 
@@ -46,16 +43,16 @@ returns-in-Some-clause-rest g c =
     let k = c.args.below.now.node.0 in
     let p = c.args.below.now.cell in
     subst (IsRest g.d.measures (rows_after g.d) p) (sym c.planned_rest.ensures)
-    (forced_rest a.width a.now g.d c.requires.1.0.tree k p c.requires.1.1.cell c.args.row.now.tuple.now
-    c.requires.1.0.tuple c.requires.1.1.low (planned_rest_in c.args.plan.now.entries) c.requires.1.1.planned
+    (forced_rest a.width a.now g.d c.requires.1.gone.tree k p c.requires.1.cell c.args.row.now.tuple.now
+    c.requires.1.gone.tuple c.requires.1.low (planned_rest_in c.args.plan.now.entries) c.requires.1.planned
     (edge_of c.in-Some.forced) (sym c.forced.ensures.value ∙ ap (option_map edge_of) c.in-Some.is))
 
 pub returns-in-None-clause-steps : goal.returns-in-None-clause-steps
 returns-in-None-clause-steps g c = λ list are.
     let a = c.args.row.now.arena.now in
     let p = c.args.below.now.cell in
-    let wide = cell_wide a.width a.now _ c.requires.1.0.tree c.args.below.now.node.0 p c.requires.1.1.cell in
-    let long : length p ≡ length c.args.row.now.tuple.now = wide ∙ sym c.requires.1.0.long in
+    let wide = cell_wide a.width a.now _ c.requires.1.gone.tree c.args.below.now.node.0 p c.requires.1.cell in
+    let long : length p ≡ length c.args.row.now.tuple.now = wide ∙ sym c.requires.1.gone.long in
     let one = c.forced.ensures.steps in
     let took = c.class_after.ensures.steps list are in
     subst (λ n. c.class_after.new.steps ≤ c.args.steps.now

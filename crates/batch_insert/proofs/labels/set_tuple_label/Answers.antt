@@ -1,21 +1,23 @@
-use Rattle.std.proofs.Common.{◌<◌, subst}
+use Rattle.std.proofs.Common.{◌<◌, length, subst}
 use Rattle.batch_insert.specs.Numbered.{numbered}
 use Rattle.batch_insert.proofs.Each.{one_set}
-use Rattle.batch_insert.proofs.Reading.{ok_then}
+use Rattle.batch_insert.specs.Planned.{CanSet}
+use Rattle.batch_insert.proofs.Reading.{ok_then, one_of}
 use Rattle.batch_insert.proofs.Keeping.{number_rewrite, number_there}
 use Rattle.batch_insert.proofs.labels.set_tuple_label.Goals as goal
 
 pub put_label-requires : goal.put_label-requires
-put_label-requires g c = record {
-  node = number_rewrite c.args.tuple.now c.args.arena.now (numbered c.args.numbers.now) _ _ c.requires.repair
-      c.number_of-node.ensures;
-  label = record {
-    target = number_there c.args.tuple.now c.args.arena.now (numbered c.args.numbers.now) _ _ c.requires.repair.numbers
-        c.number_of-target.ensures;
-    dim = subst (λ n. c.args.own.dim < n) c.requires.repair.width c.requires.within.dim;
-    code = c.tuple_code-code.ensures.small;
-  };
-}
+put_label-requires g c =
+    let can = one_of (λ x. CanSet (length c.args.tuple.now) (numbered c.args.numbers.now) x) _ c.requires.within in record {
+      node = number_rewrite c.args.tuple.now c.args.arena.now (numbered c.args.numbers.now) _ _ c.requires.repair
+          c.number_of-node.ensures;
+      label = record {
+        target = number_there c.args.tuple.now c.args.arena.now (numbered c.args.numbers.now) _ _ c.requires.repair.numbers
+            c.number_of-target.ensures;
+        dim = subst (λ n. c.args.own.dim < n) c.requires.repair.width can.dim;
+        code = c.tuple_code-code.ensures.small;
+      };
+    }
 
 pub returns-clause-done : goal.returns-clause-done
 returns-clause-done g c
@@ -25,7 +27,9 @@ returns-clause-done g c
     c.put_label.ensures.others) c.put_label.ensures.here
 
 pub tuple_code-code-requires : goal.tuple_code-code-requires
-tuple_code-code-requires g c = record { no_any = c.requires.repair.no_any; dim = c.requires.within.dim }
+tuple_code-code-requires g c =
+    let can = one_of (λ x. CanSet (length c.args.tuple.now) (numbered c.args.numbers.now) x) _ c.requires.within in
+    record { no_any = c.requires.repair.no_any; dim = can.dim }
 
 pub returns-clause-keeps : goal.returns-clause-keeps
 returns-clause-keeps g c = c.put_label.ensures.keeps

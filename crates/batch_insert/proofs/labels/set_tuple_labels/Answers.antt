@@ -1,16 +1,25 @@
 use Rattle.batch_insert.proofs.Costed.{taken_le, taken_length}
-use Rattle.std.proofs.Common.{subst, arith}
+use Rattle.std.proofs.Common.{length, subst, arith}
 use Rattle.std.proofs.lemmas.List.{take_all}
 use Rattle.batch_insert.specs.Stages.{HaveSet}
 use Rattle.batch_insert.proofs.Doing.{set_none, set_next}
 use Rattle.batch_insert.specs.Numbered.{numbered}
 use Rattle.batch_insert.proofs.Keeping.{keeps_same, keeps_then, repair_then}
+use Rattle.std.proofs.lemmas.List.Elements.{All-get_or}
+use Rattle.batch_insert.specs.declared.plan.TupleLabel.{TupleLabel}
+use Rattle.batch_insert.specs.Planned.{CanSet}
+use Rattle.batch_insert.proofs.Reading.{all_one}
 use Rattle.batch_insert.proofs.labels.set_tuple_labels.Goals as goal
 
-pub set_tuple_label-requires-clause-repair : goal.set_tuple_label-requires-clause-repair
-set_tuple_label-requires-clause-repair g c
-    = repair_then c.args.tuple.now c.args.arena.now c.tuple_labels.arena
-    (numbered c.args.numbers.now) c.tuple_labels.invariant.keeps c.requires.repair
+pub set_tuple_label-requires : goal.set_tuple_label-requires
+set_tuple_label-requires g c =
+    let can = λ (x : TupleLabel). CanSet (length c.args.tuple.now) (numbered c.args.numbers.now) x in
+    record {
+      repair = repair_then c.args.tuple.now c.args.arena.now c.tuple_labels.arena (numbered c.args.numbers.now)
+          c.tuple_labels.invariant.keeps c.requires.repair;
+      within = all_one can _
+          (All-get_or can c.args.tuple_labels.now c.tuple_labels.k _ c.tuple_labels-test.true c.requires.within);
+    }
 
 pub returns-in-Err : goal.returns-in-Err
 returns-in-Err g c = record {

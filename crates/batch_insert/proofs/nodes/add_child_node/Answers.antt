@@ -6,17 +6,6 @@ use Rattle.batch_insert.specs.Numbered.{numbered}
 use Rattle.batch_insert.proofs.Naming.{new_below, new_number, place_is, repair_more}
 use Rattle.batch_insert.proofs.nodes.add_child_node.Goals as goal
 
-pub add_new-requires-clause-under : goal.add_new-requires-clause-under
-add_new-requires-clause-under g c
-    = place_is c.args.tuple.now c.args.arena.now c.args.spot (numbered c.args.numbers.now) c.number_of-parent.result.0
-    c.requires.repair.numbers c.number_of-parent.ensures c.requires.spot c.tuple_code-code.result c.tuple_code-code.ensures.small
-    c.requires.repair.width
-
-pub add_new-requires-clause-below : goal.add_new-requires-clause-below
-add_new-requires-clause-below g c
-    = new_below c.args.tuple.now c.args.arena.now c.args.spot (numbered c.args.numbers.now) c.number_of-parent.result.0
-    c.requires.repair.numbers c.number_of-parent.ensures c.requires.spot c.tuple_code-code.result c.tuple_code-code.ensures.value
-
 pub returns-in-Ok-noted-clause-repair : goal.returns-in-Ok-noted-clause-repair
 returns-in-Ok-noted-clause-repair g c =
     repair_more c.args.tuple.now c.args.arena.now c.add_new.new.arena (numbered c.args.numbers.now)
@@ -47,9 +36,6 @@ returns-in-Err-clause-full g c = λ h a k w begun none is old.
 pub tuple_code-code-requires : goal.tuple_code-code-requires
 tuple_code-code-requires g c = record { no_any = c.requires.repair.no_any; dim = c.requires.spot.within }
 
-pub add_new-requires-clause-opened : goal.add_new-requires-clause-opened
-add_new-requires-clause-opened g c = c.requires.repair.opened
-
 pub returns-in-Err-clause-keeps : goal.returns-in-Err-clause-keeps
 returns-in-Err-clause-keeps g c = c.add_new.ensures.keeps
 
@@ -64,3 +50,14 @@ returns-in-Err-noted-clause-full g c = λ h. absurd (c.noted.ensures.fails (c.in
 
 pub returns-in-Ok-noted-clause-steps : goal.returns-in-Ok-noted-clause-steps
 returns-in-Ok-noted-clause-steps g c = omega (arith, c.in-Ok.ensures.steps)
+
+pub add_new-requires : goal.add_new-requires
+add_new-requires g c = record {
+  opened = c.requires.repair.opened;
+  place = place_is c.args.tuple.now c.args.arena.now c.args.spot (numbered c.args.numbers.now)
+      c.number_of-parent.result.0 c.requires.repair.numbers c.number_of-parent.ensures c.requires.spot
+      c.tuple_code-code.result c.tuple_code-code.ensures.small c.requires.repair.width;
+  below = new_below c.args.tuple.now c.args.arena.now c.args.spot (numbered c.args.numbers.now)
+      c.number_of-parent.result.0 c.requires.repair.numbers c.number_of-parent.ensures c.requires.spot
+      c.tuple_code-code.result c.tuple_code-code.ensures.value;
+}

@@ -81,7 +81,7 @@ returns-in-None-clause-full g c
     is c.in-None.is
 
 pub add_child_node-requires : goal.add_child_node-requires
-add_child_node-requires g c = record { repair = c.requires.repair; spot = c.requires.spot; parent = c.requires.parent }
+add_child_node-requires g c = c.requires
 
 pub returns-then-has-clause-repair : goal.returns-then-has-clause-repair
 returns-then-has-clause-repair g c = c.requires.repair

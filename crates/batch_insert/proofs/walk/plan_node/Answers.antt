@@ -10,7 +10,7 @@ returns-in-Ok c =
     = pushed (c.args.spot ∷ []) refl c.in-Ok.is c.push.ensures.items in
     record {
       grown = spot_pushed c.args.insertion.now.tuple.now c.args.insertion.now.arena.now c.args.plan.now _
-          c.requires.plan c.args.spot c.requires.spot c.requires.right c.requires.parent refl refl refl e;
+          c.args.spot c.requires.spot c.requires.right c.requires.parent refl refl refl e;
       cost = spot_more c.args.plan.now.planned_nodes.items c.push.new.self.items c.args.spot _ _ _ e;
       here = here_among c.args.spot c.args.plan.now.planned_nodes.items c.push.new.self.items e;
     }
