@@ -5,7 +5,6 @@ ghost use Rattle.std.specs.Prelude.{Err, OnOk, length, true, ◌+◌, ◌<◌, �
 ghost use Rattle.cube_defs.specs.Tree.{IsCanonical, nodes};
 ghost use Rattle.base_table.specs.Places.{named, rows_of};
 ghost use Rattle.qc_arena.specs.Map.{frame, is_open};
-ghost use Rattle.class_builder.specs.Walk.{IsPart};
 ghost use Rattle.class_builder.specs.Costs.{cost_of_building};
 ghost use Rattle.class_builder.specs.PrefixNodes.{ArePrefixNodes};
 
@@ -107,7 +106,6 @@ fn build_all<L: Ledger>(
     builder: &mut Builder<'_, L>,
     part: &Partition<'_>,
 ) -> Result<(), ArenaRefused>
-    requires part { IsPart part.now.table.now part.now.rows.now part.now.shared }
     requires all { named part.now.table.now part.now.rows.now ≡ rows_of part.now.table.now }
     requires opened { is_open builder.old.arena.now ≡ true }
     requires empty { builder.old.arena.now.now ≡ map.empty }
