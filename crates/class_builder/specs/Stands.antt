@@ -1,17 +1,24 @@
 -- Where the walk stands in the arena, and what it has done there.
 use Rattle.std.specs.Prelude.{◌≡◌, ◌<◌, ◌+◌, ℕ, suc, true, false, List, [], ◌∷◌}
+use Rattle.std.specs.FinMap as map
 use Rattle.cube_defs.specs.Cell.{Cell, cell_prefix}
 use Rattle.base_table.specs.Places.{Places, named, rows_of}
 use Rattle.cube_laws.specs.Parting.{shared_by}
 use Rattle.build_trace.specs.Trace.{Act, Act.{Label}, part_acts}
 use Rattle.build_trace.specs.Walk.{same_prefix}
 use Rattle.build_acts.specs.Building.{PerformsActs, ActsComeNext}
-use Rattle.qc_arena.specs.Map.{Arena}
+use Rattle.qc_arena.specs.Map.{Arena, is_open}
 use Rattle.class_builder.specs.PrefixNodes.{ArePrefixNodes}
 use Rattle.class_builder.specs.Walk.{IsOnPath, acts_from}
 use Rattle.class_builder.specs.declared.part.Group.{Group}
 use Rattle.class_builder.specs.declared.prefix_nodes.PrefixNodes.{PrefixNodes}
 use Rattle.class_builder.specs.declared.path.Path.{Path}
+
+-- the arena is open and has no nodes yet, for cells of so many dimensions
+pub record IsFreshArena (a : Arena) (dims : ℕ) : Type 0 where
+  pub opened : is_open a ≡ true
+  pub empty : a.now ≡ map.empty
+  pub width : a.width ≡ dims
 
 -- these acts come next, and the walk is at u's prefix with k dimensions
 pub record StandsAt (t : Places) (u : Cell ℕ) (k : ℕ) (es : List Act) (a : Arena) (p : Path)

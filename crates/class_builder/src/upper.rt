@@ -2,13 +2,12 @@
 ghost use Rattle.std.specs.Prelude.{IfNone, IfSome, None, false, is_some, length, slice_index_or, suc, true, ◌<◌, ◌≡◌, ◌≤◌};
 ghost use Rattle.cube_defs.specs.Cell.{cell_prefix};
 ghost use Rattle.cell_core.specs.Entry.{IsSmall, value_in};
-ghost use Rattle.base_table.specs.Places.{AreThere, IsTable, named};
+ghost use Rattle.base_table.specs.Places.{named};
 ghost use Rattle.cube_laws.specs.Parting.{shared_by};
 ghost use Rattle.build_trace.specs.Walk.{same_prefix};
 
 use crate::part::Group;
-use base_table::RowNo;
-use cell_closure::{SortedRows, shared_entry};
+use cell_closure::{SomeRows, SortedRows, shared_entry};
 use cell_core::{Cell, Entry};
 use std::alloc::Global;
 
@@ -21,7 +20,13 @@ fn entry_of(group: &Group<'_>, dim: u8) -> Entry
 {
     match group.upper.get(dim) {
         Entry::Is(code) => Entry::Is(code),
-        Entry::Any => shared_entry(group.table, group.rows, dim),
+        Entry::Any => {
+            let rows = SomeRows {
+                table: group.table,
+                numbers: group.rows,
+            };
+            shared_entry(&rows, dim)
+        }
     }
 }
 
@@ -35,7 +40,11 @@ fn is_shared(group: &Group<'_>, dim: u8) -> bool
     if group.rows.len() == 1 {
         return true;
     }
-    match shared_entry(group.table, group.rows, dim) {
+    let rows = SomeRows {
+        table: group.table,
+        numbers: group.rows,
+    };
+    match shared_entry(&rows, dim) {
         Entry::Is(_) => true,
         Entry::Any => false,
     }
@@ -77,15 +86,13 @@ pub(crate) fn first_new_value(group: &Group<'_>) -> Option<u8>
 }
 
 /// The values that all the rows share. It reads a dimension at a time, until two codes differ.
-pub(crate) fn closure_of_all(alloc: Global, table: &SortedRows, rows: &[RowNo]) -> Cell
-    requires table { IsTable table.now }
-    requires some { 0 < length rows.now }
-    requires there { AreThere table.now rows.now }
-    ensures { result ≡ shared_by (named table.now rows.now) }
+pub(crate) fn closure_of_all(alloc: Global, rows: &SomeRows<'_, SortedRows>) -> Cell
+    ensures { result ≡ shared_by (named rows.now.table.now rows.now.numbers.now) }
 {
+    let table = rows.table;
     let mut shared = Cell::any(alloc, table.dims());
     'dims: for dim in 0..table.dims() {
-        shared.set(dim, shared_entry(table, rows, dim));
+        shared.set(dim, shared_entry(rows, dim));
     }
     shared
 }

@@ -19,7 +19,7 @@ use crate::path::Path;
 use crate::total::total;
 use crate::upper::{closure_of_part, first_new_value};
 use build_acts::mark_class;
-use cell_closure::Parts;
+use cell_closure::{Parts, TableRows};
 use cell_core::{Entry, NodeNo};
 use qc_arena::ArenaRefused;
 use std::sync::ledger::Ledger;
@@ -131,7 +131,11 @@ fn groups_of<L: Ledger>(
     ensures steps { builder.new.steps.now ≡ builder.old.steps.now }
 {
     let mut parts = builder.room.take();
-    parts.regroup(part.table, part.rows, dim)?;
+    let rows = TableRows {
+        table: part.table,
+        numbers: part.rows,
+    };
+    parts.regroup(&rows, dim)?;
     match builder.arena.reserve_edges(node, parts.len()) {
         Ok(()) => Ok(parts),
         Err(error) => Err(error),

@@ -1,6 +1,5 @@
 use Rattle.std.proofs.Common.{◌≡◌, ◌<◌, ◌∙◌, arith, ap, length, subst, sym}
 use Rattle.base_table.specs.Places.{AreThere, named, rows_of}
-use Rattle.cube_laws.specs.Parting.{shared_by}
 use Rattle.cell_closure.proofs.CallerLemmas.{length-named, there}
 use Rattle.class_builder.proofs.Whole.{rows_few}
 use Rattle.class_builder.proofs.tree.build_sorted.Goals as goal
@@ -20,7 +19,6 @@ invariant_of-part g c =
         some = some;
         few = rows_few table c.recall_invariant.ensures rows (there table rows are) all;
         there = are;
-        shared = c.closure_of_all.ensures
-            ∙ ap (λ nos. shared_by (named table nos)) (c.deref-2.ensures.value ∙ sym c.deref.ensures.value);
+        shared = c.closure_of_all.ensures;
       };
     }
