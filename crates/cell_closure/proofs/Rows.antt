@@ -1,8 +1,10 @@
 -- Rows by their numbers.
-use Rattle.std.proofs.Common.{◌≡◌, ℕ, zero, suc, ◌<◌, Bool, true, false, Option, Some, None, List, [], ◌∷◌, ◌++◌, ◌&&◌, ◌==◌, length}
+use Rattle.std.proofs.Common.{◌≡◌, ℕ, zero, suc, ◌<◌, Bool, true, false, Option, Some, None, List, [], ◌∷◌, ◌++◌, ◌&&◌, ◌==◌, ◌-◌, length, take, drop, subst}
 use Rattle.std.proofs.Common.{get_or, filter, cond, map, slice_get, slice_index_or, is_some, refl, sym, ap, ap₂, ◌∙◌, inl, inr, arith}
 use Rattle.std.proofs.Common.{true≢false, eqb-true, eq-eqb}
 use Rattle.std.specs.Prelude.{IfSome}
+use Rattle.std.proofs.lemmas.List.{take_rest}
+use Rattle.std.proofs.lemmas.List.Elements.{All-drop}
 use Rattle.std.proofs.lemmas.Bool.{and_parts, and_from}
 use Rattle.std.proofs.lemmas.Option.{slice_get-get_or, get_or_from_slice_get}
 use Rattle.std.specs.List.{AllByRecursion, cons_option, list_all}
@@ -52,6 +54,10 @@ There t nos = AllByRecursion (λ n. is_some (row_at t n.0) ≡ true) nos
 
 pub there : (t : Places) (nos : List RowNo) → AreThere t nos → There t nos
 there t nos h = all_recursion (λ n. is_some (row_at t n.0) ≡ true) nos h
+
+-- the rows after the first are there too
+pub rest_there : (t : Places) (nos : List RowNo) → AreThere t nos → AreThere t (take (length nos - 1) (drop 1 nos))
+rest_there t nos h = subst (AreThere t) (sym (take_rest nos 1)) (All-drop (λ n. is_some (row_at t n.0) ≡ true) 1 nos h)
 
 pub length-named : (t : Places) (nos : List RowNo) → There t nos → length (named t nos) ≡ length nos
 length-named t [] h = refl

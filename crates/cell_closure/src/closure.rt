@@ -4,23 +4,25 @@ ghost use Rattle.std.specs.List.{list_all};
 ghost use Rattle.cube_defs.specs.Cell.{cell_of};
 ghost use Rattle.cube_defs.specs.Rows.{meet_all};
 ghost use Rattle.cell_core.specs.Entry.{IsSmall, value_in};
-ghost use Rattle.base_table.specs.Places.{AreThere, IsTable, named};
+ghost use Rattle.base_table.specs.Places.{AreThere, named};
 ghost use Rattle.cell_closure.specs.Parts.{code_at};
 ghost use Rattle.cube_laws.specs.Parting.{shared_by};
 
 use crate::sorted_rows::SortedRows;
+use crate::table_rows::{SomeRows, TableRows};
 use crate::width::closure_in;
 use base_table::{RowNo, Table};
 use cell_core::{Cell, Code, Entry};
 use cube_defs::MAX_DIMS;
 
 /// Whether all the rows have the code in the dimension.
-fn all_have(table: &SortedRows, rows: &[RowNo], dim: u8, code: Code) -> bool
-    requires there { AreThere table.now rows.now }
-    requires dim { dim < table.now.dims }
-    ensures { result ≡ list_all (λ no. code_at table.now dim no == code) rows.now }
+fn all_have(rows: &TableRows<'_, SortedRows>, dim: u8, code: Code) -> bool
+    requires { dim < rows.now.table.now.dims }
+    ensures { result
+        ≡ list_all (λ no. code_at rows.now.table.now dim no == code) rows.now.numbers.now }
 {
-    'rows: for row in rows {
+    let table = rows.table;
+    'rows: for row in rows.numbers {
         if table.code(*row, dim) != code {
             return false;
         }
@@ -29,17 +31,18 @@ fn all_have(table: &SortedRows, rows: &[RowNo], dim: u8, code: Code) -> bool
 }
 
 /// The value that all the rows have in the dimension. Any if they differ.
-pub fn shared_entry(table: &SortedRows, rows: &[RowNo], dim: u8) -> Entry
-    requires table { IsTable table.now }
-    requires some { 0 < length rows.now }
-    requires there { AreThere table.now rows.now }
-    requires dim { dim < table.now.dims }
+pub fn shared_entry(rows: &SomeRows<'_, SortedRows>, dim: u8) -> Entry
+    requires { dim < rows.now.table.now.dims }
     ensures value { value_in result ≡ slice_index_or
-        (shared_by (named table.now rows.now)) dim None }
+        (shared_by (named rows.now.table.now rows.now.numbers.now)) dim None }
     ensures small { IsSmall result }
 {
-    let code = table.code(rows[0], dim);
-    if all_have(table, &rows[1..], dim, code) {
+    let code = rows.table.code(rows.numbers[0], dim);
+    let rest = TableRows {
+        table: rows.table,
+        numbers: &rows.numbers[1..],
+    };
+    if all_have(&rest, dim, code) {
         Entry::Is(code)
     } else {
         Entry::Any
@@ -51,9 +54,9 @@ const WIDEST: usize = MAX_DIMS as usize;
 
 // One branch for each array width: the arrays have the least width in which the dimensions fit.
 macro_rules! closure_by_width {
-    ($table:expr, $rows:expr, $($width:literal)*) => {
-        $(if $table.dims() <= $width {
-            return closure_in::<$width>($table, $rows);
+    ($rows:expr, $($width:literal)*) => {
+        $(if $rows.table.dims() <= $width {
+            return closure_in::<$width>($rows);
         })*
     };
 }
@@ -67,6 +70,11 @@ pub fn closure_of(table: &Table, rows: &[RowNo]) -> Cell
         (map (λ row. cell_of row.tuple) (named table.now rows.now)) }
     ensures dims { length result ≡ table.now.dims }
 {
-    closure_by_width!(table, rows, 4 8 12);
-    closure_in::<WIDEST>(table, rows)
+    table.recall_invariant();
+    let rows = SomeRows {
+        table,
+        numbers: rows,
+    };
+    closure_by_width!(&rows, 4 8 12);
+    closure_in::<WIDEST>(&rows)
 }

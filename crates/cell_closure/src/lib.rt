@@ -8,6 +8,7 @@ mod coded_rows;
 mod order;
 mod parts;
 mod sorted_rows;
+mod table_rows;
 mod width;
 
 pub use closure::{closure_of, shared_entry};
@@ -15,4 +16,5 @@ pub use coded_rows::CodedRows;
 pub use cube_defs::Memory;
 pub use parts::{Parts, part};
 pub use sorted_rows::SortedRows;
+pub use table_rows::{SomeRows, TableRows};
 pub use width::meet_fixed;

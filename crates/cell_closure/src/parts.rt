@@ -7,6 +7,7 @@ ghost use Rattle.cell_closure.specs.Runs.{no_row, pieces, runs};
 use crate::Memory;
 use crate::by_code::{Keyed, Sorter, read_codes, sort_by_code};
 use crate::coded_rows::CodedRows;
+use crate::table_rows::TableRows;
 use base_table::{RowNo, Table};
 use cell_core::Code;
 use std::alloc::Global;
@@ -79,19 +80,14 @@ impl Parts {
 
     /// Groups rows by their codes in a dimension, in place of the earlier groups. Each part has its
     /// rows in the given order. After a refusal there are no parts.
-    pub fn regroup<R: CodedRows>(
-        &mut self,
-        table: &R,
-        rows: &[RowNo],
-        dim: u8,
-    ) -> Result<(), Memory>
-        requires there { AreThere (R.rows table.now) rows.now }
-        requires dim { dim < (R.rows table.now).dims }
-        ensures ok { IfOk result (λ _. self.new ≡ parted (R.rows table.now) rows.now dim) }
+    pub fn regroup<R: CodedRows>(&mut self, rows: &TableRows<'_, R>, dim: u8) -> Result<(), Memory>
+        requires { dim < (R.rows rows.now.table.now).dims }
+        ensures ok { IfOk result
+            (λ _. self.new ≡ parted (R.rows rows.now.table.now) rows.now.numbers.now dim) }
         ensures err { OnErr result (self.new ≡ []) }
     {
         self.cuts.clear();
-        let most = read_codes(&mut self.sorter.keyed, table, rows, dim)?;
+        let most = read_codes(&mut self.sorter.keyed, rows, dim)?;
         sort_by_code(&mut self.sorter, most)?;
         list_rows(&mut self.rows, &self.sorter.keyed)?;
         list_cuts(&mut self.cuts, &self.sorter.keyed)?;
@@ -106,7 +102,11 @@ pub fn part(alloc: Global, table: &Table, rows: &[RowNo], dim: u8) -> Result<Par
     ensures { IfOk result (λ parts. parts ≡ parted table.now rows.now dim) }
 {
     let mut parts = Parts::new(alloc);
-    parts.regroup(table, rows, dim)?;
+    let rows = TableRows {
+        table,
+        numbers: rows,
+    };
+    parts.regroup(&rows, dim)?;
     Ok(parts)
 }
 

@@ -6,6 +6,7 @@ ghost use Rattle.cube_laws.specs.Lists.{Reordered};
 
 use crate::Memory;
 use crate::order::sorted_numbers;
+use crate::table_rows::TableRows;
 use base_table::{RowNo, Table, line};
 use cell_core::Code;
 use cube_defs::MAX_AMOUNT;
@@ -52,8 +53,12 @@ impl SortedRows {
         ensures measures { IfOk result (λ rows. rows.measures ≡ table.now.measures) }
     {
         let numbers = sorted_numbers(alloc, table)?;
-        let codes = codes_of(alloc, table, &numbers)?;
-        let amounts = amounts_of(alloc, table, &numbers)?;
+        let rows = TableRows {
+            table,
+            numbers: &numbers,
+        };
+        let codes = codes_of(alloc, &rows)?;
+        let amounts = amounts_of(alloc, &rows)?;
         Ok(SortedRows {
             dims: table.dims(),
             measures: table.measures(),
@@ -133,27 +138,27 @@ impl SortedRows {
 }
 
 /// The codes of the rows, one after another.
-fn codes_of(alloc: Global, table: &Table, rows: &[RowNo]) -> Result<Vec<Code>, Memory>
-    requires { AreThere table.now rows.now }
+fn codes_of(alloc: Global, rows: &TableRows<'_, Table>) -> Result<Vec<Code>, Memory>
     ensures { IfOk result (λ codes. codes.items
-        ≡ flat_map (λ row. row.tuple) (named table.now rows.now)) }
+        ≡ flat_map (λ row. row.tuple) (named rows.now.table.now rows.now.numbers.now)) }
 {
+    let table = rows.table;
     let mut codes = Vec::with_capacity(alloc, table.count() as usize * table.dims() as usize)?;
-    'rows: for row in rows {
+    'rows: for row in rows.numbers {
         codes.extend_from_slice(table.codes(*row))?;
     }
     Ok(codes)
 }
 
 /// The amounts of the rows, one after another.
-fn amounts_of(alloc: Global, table: &Table, rows: &[RowNo]) -> Result<Vec<i64>, Memory>
-    requires { AreThere table.now rows.now }
+fn amounts_of(alloc: Global, rows: &TableRows<'_, Table>) -> Result<Vec<i64>, Memory>
     ensures { IfOk result (λ amounts. amounts.items
-        ≡ flat_map (λ row. row.amounts) (named table.now rows.now)) }
+        ≡ flat_map (λ row. row.amounts) (named rows.now.table.now rows.now.numbers.now)) }
 {
+    let table = rows.table;
     let measures = table.measures() as usize;
     let mut amounts = Vec::with_capacity(alloc, table.count() as usize * measures)?;
-    'rows: for row in rows {
+    'rows: for row in rows.numbers {
         amounts.extend_from_slice(table.amounts(*row))?;
     }
     Ok(amounts)

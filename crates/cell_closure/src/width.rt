@@ -4,11 +4,12 @@ ghost use Rattle.cube_defs.specs.Cell.{cell_of, meet};
 ghost use Rattle.cube_defs.specs.Rows.{meet_all};
 ghost use Rattle.cell_core.specs.Codes.{entries_of, entry_of, is_kept};
 ghost use Rattle.cell_core.specs.Entry.{IsCode};
-ghost use Rattle.base_table.specs.Places.{AreThere, IsTable, named, row_at};
+ghost use Rattle.base_table.specs.Places.{named, row_at};
 ghost use Rattle.cell_closure.specs.Parts.{code_at};
 ghost use Rattle.cell_closure.specs.Widths.{met};
 ghost use Rattle.cube_laws.specs.Parting.{shared_by};
 
+use crate::table_rows::SomeRows;
 use base_table::{RowNo, Table};
 use cell_core::{ANY, Cell, Entry};
 use cube_defs::MAX_DIMS;
@@ -56,18 +57,17 @@ fn has_value<const N: usize>(codes: &[u32; N], dims: u8) -> bool
 }
 
 /// The code that all the rows have in each dimension. [`ANY`] if they differ.
-fn shared_codes<const N: usize>(table: &Table, rows: &[RowNo]) -> [u32; N]
-    requires table { IsTable table.now }
-    requires some { 0 < length rows.now }
-    requires there { AreThere table.now rows.now }
-    requires width { table.now.dims ≤ N }
-    ensures value { (j : ℕ) → j < table.now.dims →
+fn shared_codes<const N: usize>(rows: &SomeRows<'_, Table>) -> [u32; N]
+    requires { rows.now.table.now.dims ≤ N }
+    ensures value { (j : ℕ) → j < rows.now.table.now.dims →
         entry_of (slice_index result j) ≡ slice_index_or
-        (shared_by (named table.now rows.now)) j None }
-    ensures kept { (j : ℕ) → j < table.now.dims → is_kept (slice_index result j) ≡ true }
+        (shared_by (named rows.now.table.now rows.now.numbers.now)) j None }
+    ensures kept { (j : ℕ) → j < rows.now.table.now.dims
+        → is_kept (slice_index result j) ≡ true }
 {
-    let mut shared = codes_of(table, rows[0]);
-    let rest = &rows[1..];
+    let table = rows.table;
+    let mut shared = codes_of(table, rows.numbers[0]);
+    let rest = &rows.numbers[1..];
     'rows: for row in rest {
         if !has_value(&shared, table.dims()) {
             return shared;
@@ -78,18 +78,16 @@ fn shared_codes<const N: usize>(table: &Table, rows: &[RowNo]) -> [u32; N]
 }
 
 /// The values that all the rows have, read as arrays of N codes.
-pub(crate) fn closure_in<const N: usize>(table: &Table, rows: &[RowNo]) -> Cell
-    requires some { 0 < length rows.now }
-    requires there { AreThere table.now rows.now }
-    requires width { table.now.dims ≤ N }
+pub(crate) fn closure_in<const N: usize>(rows: &SomeRows<'_, Table>) -> Cell
+    requires width { rows.now.table.now.dims ≤ N }
     requires small { N ≤ MAX_DIMS }
     ensures closure { Some result ≡ meet_all nat_eq
-        (map (λ row. cell_of row.tuple) (named table.now rows.now)) }
-    ensures dims { length result ≡ table.now.dims }
+        (map (λ row. cell_of row.tuple) (named rows.now.table.now rows.now.numbers.now)) }
+    ensures dims { length result ≡ rows.now.table.now.dims }
 {
-    table.recall_invariant();
-    let codes: [u32; N] = shared_codes(table, rows);
-    let mut shared = table.tuple(rows[0]);
+    let table = rows.table;
+    let codes: [u32; N] = shared_codes(rows);
+    let mut shared = table.tuple(rows.numbers[0]);
     'dims: for dim in 0..table.dims() {
         shared.set(dim, Entry::of(codes[dim as usize]));
     }

@@ -1,17 +1,15 @@
 // Edges of nodes of prefixes, to nodes that are added or exist already.
 ghost use Rattle.cell_core.specs.Entry.{IsCode};
 ghost use Rattle.std.specs.Ordering.{nat_cmp};
-ghost use Rattle.std.specs.Prelude.{Err, IfSome, None, OnOk, Some, [], false, length, slice_index_or, suc, true, ◌+◌, ◌<◌, ◌∷◌, ◌≡◌, ◌≤◌};
+ghost use Rattle.std.specs.Prelude.{Err, IfSome, None, OnOk, Some, length, slice_index_or, suc, ◌+◌, ◌<◌, ◌≡◌, ◌≤◌};
 ghost use Rattle.cube_defs.specs.Cell.{cell_prefix};
 ghost use Rattle.cube_defs.specs.Tree.{cell_at, nodes};
 ghost use Rattle.base_table.specs.Places.{named, rows_of};
 ghost use Rattle.cube_laws.specs.Parting.{shared_by};
-ghost use Rattle.build_trace.specs.Trace.{Act.{Label}};
-ghost use Rattle.build_trace.specs.Walk.{same_prefix};
 ghost use Rattle.qc_arena.specs.Map.{Arena, frame};
-ghost use Rattle.class_builder.specs.Walk.{IsGroup, IsOnPath, IsPart, prefix_acts};
+ghost use Rattle.class_builder.specs.Walk.{IsOnPath, prefix_acts};
 ghost use Rattle.class_builder.specs.PrefixNodes.{ArePrefixNodes};
-ghost use Rattle.class_builder.specs.Stands.{HasDone, StandsAt};
+ghost use Rattle.class_builder.specs.Stands.{HasDone, StandsAtLink, StandsBefore, link_acts};
 
 use crate::Memory;
 use crate::builder::Builder;
@@ -34,11 +32,9 @@ pub(crate) fn add_prefix_node<L: Ledger>(
     edge: ChildEdge,
     path: &mut Path,
 ) -> Result<(), ArenaRefused>
-    requires part { IsPart part.now.table.now part.now.rows.now part.now.shared }
-    requires dim { dim < part.now.table.now.dims }
     requires value { slice_index_or part.now.shared dim None ≡ Some edge.code }
     requires small { IsCode edge.code }
-    requires stands { StandsAt part.now.table.now part.now.shared dim
+    requires stands { StandsBefore part.now.table.now part.now.shared dim
         (prefix_acts edge.is_forced part.now.shared dim edge.code)
         builder.old.arena.now path.old builder.old.fronts.now }
     ensures done { OnOk result
@@ -69,56 +65,45 @@ pub(crate) fn add_prefix_node<L: Ledger>(
     }
 }
 
-/// The node of the prefix through `dim` of a group's only row, if it is stored. None if the group
-/// has more rows.
-fn prefix_node_of_row(fronts: &PrefixNodes, group: &Group<'_>, dim: u8) -> Option<NodeNo>
-    requires group { IsGroup group.now.table.now group.now.rows.now group.now.code
-        group.now.upper.now dim }
+/// The node of the prefix through the dimension of a group's only row, if it is stored. None if the
+/// group has more rows.
+fn prefix_node_of_row(fronts: &PrefixNodes, group: &Group<'_>) -> Option<NodeNo>
     ensures { IfSome result (λ node. (arena : Arena)
         → ArePrefixNodes group.now.table.now arena fronts.now →
         cell_at arena.now node.0
-        ≡ Some (cell_prefix (suc dim)
+        ≡ Some (cell_prefix (suc group.now.dim)
         (shared_by (named group.now.table.now group.now.rows.now)))) }
 {
     if group.rows.len() != 1 {
         return None;
     }
-    fronts.at(group.rows[0], dim)
+    fronts.at(group.rows[0], group.dim)
 }
 
-/// The node of the prefix through `dim` of what a group's rows share. They share a value in
-/// dimension `at`, where `upper` has Any. So the node exists already: it is stored, or found by a
-/// descent from the path.
+/// The node of the prefix through the group's dimension of what its rows share. They share a value
+/// in dimension `at`, where `upper` has Any. So the node exists already: it is stored, or found by
+/// a descent from the path.
 fn shared_prefix_node<L: Ledger>(
     builder: &mut Builder<'_, L>,
     group: &Group<'_>,
     at: u8,
-    dim: u8,
     path: &Path,
 ) -> NodeNo
-    requires group { IsGroup group.now.table.now group.now.rows.now group.now.code
-        group.now.upper.now dim }
-    requires at { at < dim }
-    requires front { same_prefix at (shared_by (named group.now.table.now group.now.rows.now))
-        group.now.upper.now ≡ true }
-    requires gains { same_prefix (suc at) (shared_by (named group.now.table.now group.now.rows.now))
-        group.now.upper.now ≡ false }
-    requires stands { StandsAt group.now.table.now group.now.upper.now dim
-        (Label false (cell_prefix dim group.now.upper.now) dim group.now.code
-        (cell_prefix (suc dim) (shared_by (named group.now.table.now group.now.rows.now))) ∷ [])
-        builder.old.arena.now path.now builder.old.fronts.now }
+    requires { StandsAtLink group.now at builder.old.arena.now path.now builder.old.fronts.now }
     ensures node { cell_at builder.old.arena.now.now result.0
-        ≡ Some (cell_prefix (suc dim) (shared_by (named group.now.table.now group.now.rows.now))) }
+        ≡ Some (cell_prefix (suc group.now.dim)
+        (shared_by (named group.now.table.now group.now.rows.now))) }
     ensures arena { builder.new.arena.now ≡ builder.old.arena.now }
     ensures fronts { builder.new.fronts.now ≡ builder.old.fronts.now }
     ensures same { builder.new.arena.ghost_name ≡ builder.old.arena.ghost_name }
     ensures same_steps { builder.new.steps.ghost_name ≡ builder.old.steps.ghost_name }
-    ensures steps { builder.new.steps.now ≤ builder.old.steps.now + (dim + 1) }
+    ensures steps { builder.new.steps.now ≤ builder.old.steps.now + (group.now.dim + 1) }
 {
-    if let Some(node) = prefix_node_of_row(builder.fronts, group, dim) {
+    if let Some(node) = prefix_node_of_row(builder.fronts, group) {
         return node;
     }
-    let target = shared_prefix(group.table, group.rows, group.upper, at, dim);
+    let dim = group.dim;
+    let target = shared_prefix(group, at);
     match builder.fronts.find(group.rows[0], &target, dim) {
         Some(node) => node,
         None => descend(builder.arena, path.at(at), &target, at, dim, builder.steps),
@@ -131,34 +116,21 @@ pub(crate) fn link_part<L: Ledger>(
     builder: &mut Builder<'_, L>,
     group: &Group<'_>,
     at: u8,
-    dim: u8,
     path: &Path,
 ) -> Result<(), Memory>
-    requires group { IsGroup group.now.table.now group.now.rows.now group.now.code
-        group.now.upper.now dim }
-    requires at { at < dim }
-    requires front { same_prefix at (shared_by (named group.now.table.now group.now.rows.now))
-        group.now.upper.now ≡ true }
-    requires gains { same_prefix (suc at) (shared_by (named group.now.table.now group.now.rows.now))
-        group.now.upper.now ≡ false }
-    requires stands { StandsAt group.now.table.now group.now.upper.now dim
-        (Label false (cell_prefix dim group.now.upper.now) dim group.now.code
-        (cell_prefix (suc dim) (shared_by (named group.now.table.now group.now.rows.now))) ∷ [])
-        builder.old.arena.now path.now builder.old.fronts.now }
-    ensures done { OnOk result (HasDone group.now.table.now
-        (Label false (cell_prefix dim group.now.upper.now) dim group.now.code
-        (cell_prefix (suc dim) (shared_by (named group.now.table.now group.now.rows.now))) ∷ [])
+    requires { StandsAtLink group.now at builder.old.arena.now path.now builder.old.fronts.now }
+    ensures done { OnOk result (HasDone group.now.table.now (link_acts group.now)
         builder.old.arena.now builder.new.arena.now builder.new.fronts.now) }
     ensures frame { frame builder.new.arena.now ≡ frame builder.old.arena.now }
     ensures same { builder.new.arena.ghost_name ≡ builder.old.arena.ghost_name }
     ensures same_steps { builder.new.steps.ghost_name ≡ builder.old.steps.ghost_name }
-    ensures steps { builder.new.steps.now ≤ builder.old.steps.now + (dim + 2) }
+    ensures steps { builder.new.steps.now ≤ builder.old.steps.now + (group.now.dim + 2) }
 {
-    let to = shared_prefix_node(builder, group, at, dim, path);
+    let to = shared_prefix_node(builder, group, at, path);
     set_link(
         builder.arena,
-        path.at(dim),
-        dim,
+        path.at(group.dim),
+        group.dim,
         group.code,
         to,
         builder.steps,

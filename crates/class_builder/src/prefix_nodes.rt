@@ -4,7 +4,6 @@ ghost use Rattle.cube_defs.specs.Cell.{cell_prefix};
 ghost use Rattle.cube_defs.specs.Tree.{cell_at};
 ghost use Rattle.qc_arena.specs.Map.{Arena};
 ghost use Rattle.class_builder.specs.PrefixNodes.{ArePrefixNodes, IsFull, unset_node, prefix_node};
-ghost use Rattle.class_builder.specs.Walk.{IsPart};
 
 use crate::Memory;
 use crate::part::Partition;
@@ -69,7 +68,6 @@ impl PrefixNodes {
     /// Stores the node of the prefix through `dim` of what the rows share, if they share a value in
     /// each dimension up to it.
     pub(crate) fn note(&mut self, part: &Partition<'_>, dim: u8, node: NodeNo)
-        requires part { IsPart part.now.table.now part.now.rows.now part.now.shared }
         requires dim { dim < length part.now.shared }
         requires dims { self.old.dims ≡ length part.now.shared }
         ensures { (arena : Arena) → ArePrefixNodes part.now.table.now arena self.old

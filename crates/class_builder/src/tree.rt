@@ -5,9 +5,9 @@ ghost use Rattle.std.specs.Prelude.{Err, OnOk, length, true, ◌+◌, ◌<◌, �
 ghost use Rattle.cube_defs.specs.Tree.{IsCanonical, nodes};
 ghost use Rattle.base_table.specs.Places.{named, rows_of};
 ghost use Rattle.qc_arena.specs.Map.{frame, is_open};
-ghost use Rattle.class_builder.specs.Walk.{IsPart};
 ghost use Rattle.class_builder.specs.Costs.{cost_of_building};
 ghost use Rattle.class_builder.specs.PrefixNodes.{ArePrefixNodes};
+ghost use Rattle.class_builder.specs.Stands.{IsFreshArena};
 
 use crate::builder::Builder;
 use crate::part::Partition;
@@ -18,7 +18,7 @@ use crate::upper::closure_of_all;
 use crate::walk::drill;
 use base_table::Table;
 use build_acts::add_root;
-use cell_closure::SortedRows;
+use cell_closure::{SomeRows, SortedRows};
 use cell_core::{Code, Steps};
 use cube_laws::same_rows::lists_of_cells_in_order;
 use qc_arena::{ArenaRefused, QcArena};
@@ -68,9 +68,7 @@ fn build_sorted<L: Ledger>(
     steps: &mut Steps<L>,
 ) -> Result<(), ArenaRefused>
     requires some { 0 < length (rows_of table.now) }
-    requires opened { is_open arena.old ≡ true }
-    requires empty { arena.old.now ≡ map.empty }
-    requires width { arena.old.width ≡ table.now.dims }
+    requires fresh { IsFreshArena arena.old table.now.dims }
     ensures tree { OnOk result
         (IsCanonical nat_cmp table.now.measures (rows_of table.now) arena.new.now) }
     ensures fits { OnOk result (length (nodes nat_cmp (rows_of table.now)) ≤ arena.old.max) }
@@ -84,10 +82,14 @@ fn build_sorted<L: Ledger>(
     let Ok(rows) = table.all(alloc) else {
         return Err(ArenaRefused::Memory);
     };
+    let some = SomeRows {
+        table,
+        numbers: &rows,
+    };
     let part = Partition {
         table,
-        rows: &rows,
-        shared: closure_of_all(alloc, table, &rows),
+        rows: some.numbers,
+        shared: closure_of_all(alloc, &some),
     };
     let Ok(mut fronts) = PrefixNodes::new(alloc, table) else {
         return Err(ArenaRefused::Memory);
@@ -107,11 +109,8 @@ fn build_all<L: Ledger>(
     builder: &mut Builder<'_, L>,
     part: &Partition<'_>,
 ) -> Result<(), ArenaRefused>
-    requires part { IsPart part.now.table.now part.now.rows.now part.now.shared }
     requires all { named part.now.table.now part.now.rows.now ≡ rows_of part.now.table.now }
-    requires opened { is_open builder.old.arena.now ≡ true }
-    requires empty { builder.old.arena.now.now ≡ map.empty }
-    requires width { builder.old.arena.now.width ≡ part.now.table.now.dims }
+    requires fresh { IsFreshArena builder.old.arena.now part.now.table.now.dims }
     requires fronts { ArePrefixNodes part.now.table.now builder.old.arena.now
         builder.old.fronts.now }
     ensures tree { OnOk result

@@ -5,10 +5,10 @@ ghost use Rattle.std.specs.Prelude.{Err, IfOk, IsSome, None, OnOk, length, slice
 ghost use Rattle.cube_defs.specs.Tree.{nodes};
 ghost use Rattle.base_table.specs.Places.{named, rows_of};
 ghost use Rattle.cell_closure.specs.Parts.{parted};
-ghost use Rattle.build_trace.specs.Trace.{acts_at, part_acts};
+ghost use Rattle.build_trace.specs.Trace.{acts_at};
 ghost use Rattle.qc_arena.specs.Map.{frame};
-ghost use Rattle.class_builder.specs.Walk.{IsGroup, IsOnPath, IsPart, acts_from};
-ghost use Rattle.class_builder.specs.Stands.{HasDone, StandsAt};
+ghost use Rattle.class_builder.specs.Walk.{IsOnPath, acts_from};
+ghost use Rattle.class_builder.specs.Stands.{HasDone, StandsAt, StandsBefore, group_acts};
 ghost use Rattle.class_builder.specs.Costs.{cost_of_acts};
 
 use crate::Memory;
@@ -19,7 +19,7 @@ use crate::path::Path;
 use crate::total::total;
 use crate::upper::{closure_of_part, first_new_value};
 use build_acts::mark_class;
-use cell_closure::Parts;
+use cell_closure::{Parts, TableRows};
 use cell_core::{Entry, NodeNo};
 use qc_arena::ArenaRefused;
 use std::sync::ledger::Ledger;
@@ -33,7 +33,6 @@ pub(crate) fn drill<L: Ledger>(
     first: u8,
     mut path: Path,
 ) -> Result<(), ArenaRefused>
-    requires part { IsPart part.now.table.now part.now.rows.now part.now.shared }
     requires first { first ≤ part.now.table.now.dims }
     requires stands { StandsAt part.now.table.now part.now.shared first
         (acts_from part.now.table.now first (named part.now.table.now part.now.rows.now))
@@ -52,7 +51,7 @@ pub(crate) fn drill<L: Ledger>(
 {
     // Reads all amounts in their order now. The groups of these rows later read them in another
     // order.
-    let agg = total(part.table, part.rows);
+    let agg = total(part);
     'dims: for dim in first..part.table.dims() {
         match drill_at(builder, part, dim, &mut path) {
             Ok(()) => {}
@@ -78,9 +77,7 @@ fn drill_at<L: Ledger>(
     dim: u8,
     path: &mut Path,
 ) -> Result<(), ArenaRefused>
-    requires part { IsPart part.now.table.now part.now.rows.now part.now.shared }
-    requires dim { dim < part.now.table.now.dims }
-    requires stands { StandsAt part.now.table.now part.now.shared dim
+    requires { StandsBefore part.now.table.now part.now.shared dim
         (acts_at (acts_from part.now.table.now (dim + 1)) dim part.now.shared
         (slice_index_or part.now.shared dim None) (named part.now.table.now part.now.rows.now))
         builder.old.arena.now path.old builder.old.fronts.now }
@@ -124,7 +121,6 @@ fn groups_of<L: Ledger>(
     dim: u8,
     node: NodeNo,
 ) -> Result<Parts, Memory>
-    requires part { IsPart part.now.table.now part.now.rows.now part.now.shared }
     requires dim { dim < part.now.table.now.dims }
     requires node { IsSome (map.get builder.old.arena.now.now node.0) }
     ensures parts { IfOk result (λ parts. parts ≡ parted part.now.table.now part.now.rows.now dim) }
@@ -134,7 +130,12 @@ fn groups_of<L: Ledger>(
     ensures same_steps { builder.new.steps.ghost_name ≡ builder.old.steps.ghost_name }
     ensures steps { builder.new.steps.now ≡ builder.old.steps.now }
 {
-    let parts = builder.room.part(part.table, part.rows, dim)?;
+    let mut parts = builder.room.take();
+    let rows = TableRows {
+        table: part.table,
+        numbers: part.rows,
+    };
+    parts.regroup(&rows, dim)?;
     match builder.arena.reserve_edges(node, parts.len()) {
         Ok(()) => Ok(parts),
         Err(error) => Err(error),
@@ -150,9 +151,7 @@ fn drill_in<L: Ledger>(
     dim: u8,
     path: &Path,
 ) -> Result<(), ArenaRefused>
-    requires part { IsPart part.now.table.now part.now.rows.now part.now.shared }
-    requires dim { dim < part.now.table.now.dims }
-    requires stands { StandsAt part.now.table.now part.now.shared dim
+    requires { StandsBefore part.now.table.now part.now.shared dim
         (acts_at (acts_from part.now.table.now (dim + 1)) dim part.now.shared None
         (named part.now.table.now part.now.rows.now))
         builder.old.arena.now path.now builder.old.fronts.now }
@@ -179,8 +178,9 @@ fn drill_in<L: Ledger>(
             rows: parts.rows(k),
             code: parts.code(k),
             upper: &part.shared,
+            dim,
         };
-        match drill_part(builder, &group, dim, path) {
+        match drill_part(builder, &group, path) {
             Ok(()) => {}
             Err(error) => return Err(error),
         }
@@ -197,18 +197,11 @@ fn drill_in<L: Ledger>(
 fn drill_part<L: Ledger>(
     builder: &mut Builder<'_, L>,
     group: &Group<'_>,
-    dim: u8,
     path: &Path,
 ) -> Result<(), ArenaRefused>
-    requires group { IsGroup group.now.table.now group.now.rows.now group.now.code
-        group.now.upper.now dim }
-    requires stands { StandsAt group.now.table.now group.now.upper.now dim
-        (part_acts (acts_from group.now.table.now (dim + 1)) dim group.now.upper.now group.now.code
-        (named group.now.table.now group.now.rows.now))
-        builder.old.arena.now path.now builder.old.fronts.now }
-    ensures done { OnOk result (HasDone group.now.table.now
-        (part_acts (acts_from group.now.table.now (dim + 1)) dim group.now.upper.now group.now.code
-        (named group.now.table.now group.now.rows.now))
+    requires { StandsAt group.now.table.now group.now.upper.now group.now.dim
+        (group_acts group.now) builder.old.arena.now path.now builder.old.fronts.now }
+    ensures done { OnOk result (HasDone group.now.table.now (group_acts group.now)
         builder.old.arena.now builder.new.arena.now builder.new.fronts.now) }
     ensures full { result ≡ Err ArenaRefused.Full
         → builder.old.arena.now.max < length (nodes nat_cmp (rows_of group.now.table.now)) }
@@ -216,12 +209,10 @@ fn drill_part<L: Ledger>(
     ensures same { builder.new.arena.ghost_name ≡ builder.old.arena.ghost_name }
     ensures same_steps { builder.new.steps.ghost_name ≡ builder.old.steps.ghost_name }
     ensures steps { OnOk result (builder.new.steps.now ≤ builder.old.steps.now
-        + cost_of_acts group.now.table.now.dims
-        (part_acts (acts_from group.now.table.now (dim + 1)) dim group.now.upper.now group.now.code
-        (named group.now.table.now group.now.rows.now))) }
+        + cost_of_acts group.now.table.now.dims (group_acts group.now)) }
 {
-    match first_new_value(group.table, group.rows, group.upper, dim) {
-        Some(at) => match link_part(builder, group, at, dim, path) {
+    match first_new_value(group) {
+        Some(at) => match link_part(builder, group, at, path) {
             Ok(()) => Ok(()),
             Err(_) => Err(ArenaRefused::Memory),
         },
@@ -229,15 +220,15 @@ fn drill_part<L: Ledger>(
             let part = Partition {
                 table: group.table,
                 rows: group.rows,
-                shared: closure_of_part(group.table, group.rows, group.upper, dim),
+                shared: closure_of_part(group),
             };
             let edge = ChildEdge {
                 code: group.code,
                 is_forced: false,
             };
             let mut below = *path;
-            match add_prefix_node(builder, &part, dim, edge, &mut below) {
-                Ok(()) => drill(builder, &part, dim + 1, below),
+            match add_prefix_node(builder, &part, group.dim, edge, &mut below) {
+                Ok(()) => drill(builder, &part, group.dim + 1, below),
                 Err(error) => Err(error),
             }
         }

@@ -3,7 +3,7 @@ ghost use Rattle.std.specs.Prelude.{◌<◌};
 
 use crate::rows::{Change, make};
 use base_table::Table;
-use cell_closure::{Parts, SortedRows, closure_of, part};
+use cell_closure::{Parts, SortedRows, TableRows, closure_of, part};
 use cell_core::{Code, Entry};
 use std::alloc::{AllocError, Global};
 
@@ -146,7 +146,11 @@ fn pairs_in(alloc: Global, rows: &SortedRows, dim: u8) -> Result<Vec<(Code, u32)
 {
     let nos = rows.all(alloc)?;
     let mut parts = Parts::new(alloc);
-    parts.regroup(rows, &nos, dim)?;
+    let all = TableRows {
+        table: rows,
+        numbers: &nos,
+    };
+    parts.regroup(&all, dim)?;
     pairs_of(alloc, &parts)
 }
 

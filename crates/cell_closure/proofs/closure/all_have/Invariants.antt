@@ -4,4 +4,4 @@ use Rattle.cell_closure.specs.Parts.{code_at}
 use Rattle.cell_closure.proofs.closure.all_have.Given as goal
 
 abbrev pub invariant-rows : goal.invariant-rows
-invariant-rows l = list_all (λ n. code_at l.table l.dim n == l.code) (take l.row-index l.rows) ≡ true
+invariant-rows l = list_all (λ n. code_at l.rows.table.now l.dim n == l.code) (take l.row-index l.rows.numbers.now) ≡ true

@@ -2,34 +2,39 @@ use Rattle.std.proofs.Common.{◌≡◌, ◌==◌, ◌∙◌, sym, get_or, is_so
 use Rattle.std.specs.List.{list_all}
 use Rattle.base_table.specs.Places.{row_at}
 use Rattle.cell_closure.specs.Parts.{code_at}
-use Rattle.cell_closure.proofs.Rows.{there, code_is}
+use Rattle.cell_closure.proofs.Rows.{there, code_is, rest_there}
 use Rattle.cell_closure.proofs.Closing.{zeroth, all_share, none_share, rest_decides}
 use Rattle.cell_closure.proofs.closure.shared_entry.Goals as goal
 
+pub invariant_of-rest : goal.invariant_of-rest
+invariant_of-rest c = record {
+  there = rest_there c.args.rows.now.table.now c.args.rows.now.numbers.now c.args.rows.now.are.there;
+}
+
 pub returns-then-all_have-clause-value : goal.returns-then-all_have-clause-value
 returns-then-all_have-clause-value c =
-    let here : is_some (row_at c.args.table.now (get_or c.args.rows.now 0 zeroth).0) ≡ true
-    = c.requires.there 0 zeroth c.requires.some in
-    let code : c.code-code.result ≡ code_at c.args.table.now c.args.dim (get_or c.args.rows.now 0 zeroth)
-    = code_is (row_at c.args.table.now (get_or c.args.rows.now 0 zeroth).0) c.args.dim c.code-code.result here
+    let here : is_some (row_at c.args.rows.now.table.now (get_or c.args.rows.now.numbers.now 0 zeroth).0) ≡ true
+    = c.args.rows.now.are.there 0 zeroth c.args.rows.now.are.some in
+    let code : c.code-code.result ≡ code_at c.args.rows.now.table.now c.args.dim (get_or c.args.rows.now.numbers.now 0 zeroth)
+    = code_is (row_at c.args.rows.now.table.now (get_or c.args.rows.now.numbers.now 0 zeroth).0) c.args.dim c.code-code.result here
     c.code-code.ensures.value in
-    let all : list_all (λ n. code_at c.args.table.now c.args.dim n == c.code-code.result) c.args.rows.now ≡ true
-    = sym (rest_decides c.args.table.now c.args.dim c.code-code.result c.args.rows.now c.requires.some code)
+    let all : list_all (λ n. code_at c.args.rows.now.table.now c.args.dim n == c.code-code.result) c.args.rows.now.numbers.now ≡ true
+    = sym (rest_decides c.args.rows.now.table.now c.args.dim c.code-code.result c.args.rows.now.numbers.now c.args.rows.now.are.some code)
     ∙ sym c.all_have.ensures ∙ c.if-all_have.true in
-    sym (all_share c.args.table.now c.requires.table c.args.rows.now
-    (there c.args.table.now c.args.rows.now c.requires.there) c.requires.some c.args.dim c.code-code.result
-    c.requires.dim all)
+    sym (all_share c.args.rows.now.table.now c.args.rows.now.are.table c.args.rows.now.numbers.now
+    (there c.args.rows.now.table.now c.args.rows.now.numbers.now c.args.rows.now.are.there) c.args.rows.now.are.some c.args.dim c.code-code.result
+    c.requires all)
 
 pub returns-else-all_have-clause-value : goal.returns-else-all_have-clause-value
 returns-else-all_have-clause-value c =
-    let here : is_some (row_at c.args.table.now (get_or c.args.rows.now 0 zeroth).0) ≡ true
-    = c.requires.there 0 zeroth c.requires.some in
-    let code : c.code-code.result ≡ code_at c.args.table.now c.args.dim (get_or c.args.rows.now 0 zeroth)
-    = code_is (row_at c.args.table.now (get_or c.args.rows.now 0 zeroth).0) c.args.dim c.code-code.result here
+    let here : is_some (row_at c.args.rows.now.table.now (get_or c.args.rows.now.numbers.now 0 zeroth).0) ≡ true
+    = c.args.rows.now.are.there 0 zeroth c.args.rows.now.are.some in
+    let code : c.code-code.result ≡ code_at c.args.rows.now.table.now c.args.dim (get_or c.args.rows.now.numbers.now 0 zeroth)
+    = code_is (row_at c.args.rows.now.table.now (get_or c.args.rows.now.numbers.now 0 zeroth).0) c.args.dim c.code-code.result here
     c.code-code.ensures.value in
-    let other : list_all (λ n. code_at c.args.table.now c.args.dim n == c.code-code.result) c.args.rows.now ≡ false
-    = sym (rest_decides c.args.table.now c.args.dim c.code-code.result c.args.rows.now c.requires.some code)
+    let other : list_all (λ n. code_at c.args.rows.now.table.now c.args.dim n == c.code-code.result) c.args.rows.now.numbers.now ≡ false
+    = sym (rest_decides c.args.rows.now.table.now c.args.dim c.code-code.result c.args.rows.now.numbers.now c.args.rows.now.are.some code)
     ∙ sym c.all_have.ensures ∙ c.if-all_have.false in
-    sym (none_share c.args.table.now c.requires.table c.args.rows.now
-    (there c.args.table.now c.args.rows.now c.requires.there) c.requires.some c.args.dim
+    sym (none_share c.args.rows.now.table.now c.args.rows.now.are.table c.args.rows.now.numbers.now
+    (there c.args.rows.now.table.now c.args.rows.now.numbers.now c.args.rows.now.are.there) c.args.rows.now.are.some c.args.dim
     c.code-code.result code other)

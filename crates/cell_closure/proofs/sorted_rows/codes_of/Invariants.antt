@@ -3,4 +3,4 @@ use Rattle.base_table.specs.Places.{named}
 use Rattle.cell_closure.proofs.sorted_rows.codes_of.Given as goal
 
 abbrev pub invariant-rows : goal.invariant-rows
-invariant-rows l = l.codes.items ≡ flat_map (λ row. row.tuple) (named l.table (take l.row-index l.rows))
+invariant-rows l = l.codes.items ≡ flat_map (λ row. row.tuple) (named l.rows.table.now (take l.row-index l.rows.numbers.now))

@@ -6,6 +6,6 @@ use Rattle.cell_closure.proofs.width.closure_in.Given as goal
 
 abbrev pub invariant-dims : goal.invariant-dims
 invariant-dims g l = record {
-  long : length l.shared ≡ l.table.dims;
-  done : (j : ℕ) → j < l.dim → entry l.shared j ≡ entry (shared_by (named l.table l.rows)) j;
+  long : length l.shared ≡ l.rows.table.now.dims;
+  done : (j : ℕ) → j < l.dim → entry l.shared j ≡ entry (shared_by (named l.rows.table.now l.rows.numbers.now)) j;
 }

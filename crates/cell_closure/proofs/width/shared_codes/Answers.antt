@@ -14,20 +14,20 @@ use Rattle.cell_closure.proofs.width.shared_codes.Goals as goal
 
 pub rows-preserved : goal.rows-preserved
 rows-preserved g c =
-    let first : RowNo = get_or c.args.rows.now 0 zeroth in
-    let rest : List RowNo = take (length c.args.rows.now - 1) (drop 1 c.args.rows.now) in
+    let first : RowNo = get_or c.args.rows.now.numbers.now 0 zeroth in
+    let rest : List RowNo = take (length c.args.rows.now.numbers.now - 1) (drop 1 c.args.rows.now.numbers.now) in
     record {
       long = c.meet_fixed.ensures.width;
-      done = λ j lt. c.meet_fixed.ensures.codes j (omega (arith, lt, c.requires.width))
+      done = λ j lt. c.meet_fixed.ensures.codes j (omega (arith, lt, c.requires))
           ∙ ap₂ met (c.rows.invariant.done j lt) (c.codes_of.ensures.value j lt)
-          ∙ shared-more c.args.table.now j first (take c.rows.row-index rest) _
-          ∙ ap (shared_code c.args.table.now j first) (sym (take_more rest c.rows.row-index _ c.rows-test.true));
+          ∙ shared-more c.args.rows.now.table.now j first (take c.rows.row-index rest) _
+          ∙ ap (shared_code c.args.rows.now.table.now j first) (sym (take_more rest c.rows.row-index _ c.rows-test.true));
     }
 
 pub returns : goal.returns
 returns g c =
-    let t = c.args.table.now in
-    let nos = c.args.rows.now in
+    let t = c.args.rows.now.table.now in
+    let nos = c.args.rows.now.numbers.now in
     let first : RowNo = get_or nos 0 zeroth in
     let rest : List RowNo = take (length nos - 1) (drop 1 nos) in
     let small : (j : ℕ) → j < t.dims → IsCode (code_at t j first)
@@ -39,15 +39,15 @@ returns g c =
     = λ j lt. c.rows.invariant.done j lt ∙ ap (shared_code t j first) whole in
     record {
       value = λ j lt. ap entry_of (all j lt)
-          ∙ shared-whole t c.requires.table nos (there t nos c.requires.there) c.requires.some j lt (small j lt);
+          ∙ shared-whole t c.args.rows.now.are.table nos (there t nos c.args.rows.now.are.there) c.args.rows.now.are.some j lt (small j lt);
       kept = λ j lt. ap is_kept (all j lt)
           ∙ code-kept (list_all (λ n. code_at t j n == code_at t j first) rest) (code_at t j first) (small j lt);
     }
 
 pub returns-then-not-has_value : goal.returns-then-not-has_value
 returns-then-not-has_value g c =
-    let t = c.args.table.now in
-    let nos = c.args.rows.now in
+    let t = c.args.rows.now.table.now in
+    let nos = c.args.rows.now.numbers.now in
     let first : RowNo = get_or nos 0 zeroth in
     let small : (j : ℕ) → j < t.dims → IsCode (code_at t j first)
     = λ j lt. subst IsCode (c.codes_of-shared.ensures.value j lt) (c.codes_of-shared.ensures.small j lt) in
@@ -55,7 +55,7 @@ returns-then-not-has_value g c =
     = λ j lt. c.has_value.ensures c.if-not-has_value.true j (omega (arith, lt, c.dims.ensures.value)) in
     record {
       value = λ j lt. ap entry_of (c.rows.invariant.done j lt)
-          ∙ shared-prefix t c.requires.table nos (there t nos c.requires.there) c.requires.some j c.rows.row-index lt
+          ∙ shared-prefix t c.args.rows.now.are.table nos (there t nos c.args.rows.now.are.there) c.args.rows.now.are.some j c.rows.row-index lt
           (small j lt) (sym (c.rows.invariant.done j lt) ∙ any j lt);
       kept = λ j lt. ap is_kept (c.rows.invariant.done j lt)
           ∙ code-kept (list_all (λ n. code_at t j n == code_at t j first)

@@ -17,24 +17,24 @@ use Rattle.class_builder.proofs.tree.build_all.Goals as goal
 
 pub add_root-requires-clause-none : goal.add_root-requires-clause-none
 add_root-requires-clause-none g c
-    = no_cell c.args.builder.now.arena.now.now (replicate c.args.builder.now.arena.now.width None) c.requires.empty
+    = no_cell c.args.builder.now.arena.now.now (replicate c.args.builder.now.arena.now.width None) c.requires.fresh.empty
 
 pub drill-built-requires-clause-stands : goal.drill-built-requires-clause-stands
 drill-built-requires-clause-stands g c =
     let rows = named c.args.part.now.table.now c.args.part.now.rows.now in
     let going = root_going c.args.part.now.table.now c.args.part.now.rows.now c.args.builder.now.arena.now
-    (there c.args.part.now.table.now c.args.part.now.rows.now c.requires.part.there) c.requires.all
-    c.requires.part.table c.requires.part.some c.requires.width c.requires.opened c.requires.empty in
+    (there c.args.part.now.table.now c.args.part.now.rows.now c.args.part.now.is.there) c.requires.all
+    c.args.part.now.is.table c.args.part.now.is.some c.requires.fresh.width c.requires.fresh.opened c.requires.fresh.empty in
     let root = Add (replicate c.args.builder.now.arena.now.width None) ∷ [] in
     record {
-      width = ap (λ (a : Arena). a.width) c.in-Ok.ensures.frame ∙ c.requires.width;
+      width = ap (λ (a : Arena). a.width) c.in-Ok.ensures.frame ∙ c.requires.fresh.width;
       next = next_behind root (acts_from c.args.part.now.table.now 0 rows) c.args.builder.now.arena.now
           c.add_root.new.arena (first_next c.args.part.now.table.now.measures (rows_of c.args.part.now.table.now) _
           c.args.builder.now.arena.now going)
           (c.in-Ok.ensures.made c.args.part.now.table.now.measures (rows_of c.args.part.now.table.now));
       path = root_path c.add_root.new.arena c.start.result c.args.part.now.shared c.args.builder.now.arena.now.width
-          (part_long c.args.part.now.table.now c.args.part.now.rows.now c.args.part.now.shared c.requires.part
-          ∙ sym c.requires.width) (ap (λ k. cell_at c.add_root.new.arena.now k) c.start.ensures ∙ c.in-Ok.ensures.here);
+          (part_long c.args.part.now.table.now c.args.part.now.rows.now c.args.part.now.shared c.args.part.now.is
+          ∙ sym c.requires.fresh.width) (ap (λ k. cell_at c.add_root.new.arena.now k) c.start.ensures ∙ c.in-Ok.ensures.here);
       fronts = noted_stay c.args.part.now.table.now c.args.builder.now.arena.now c.add_root.new.arena
           c.args.builder.now.fronts.now (c.in-Ok.ensures.made 0 []).cells c.requires.fronts;
     }
@@ -43,8 +43,8 @@ pub returns-in-Ok-clause-tree : goal.returns-in-Ok-clause-tree
 returns-in-Ok-clause-tree g c =
     let rows = named c.args.part.now.table.now c.args.part.now.rows.now in
     let going = root_going c.args.part.now.table.now c.args.part.now.rows.now c.args.builder.now.arena.now
-    (there c.args.part.now.table.now c.args.part.now.rows.now c.requires.part.there) c.requires.all
-    c.requires.part.table c.requires.part.some c.requires.width c.requires.opened c.requires.empty in
+    (there c.args.part.now.table.now c.args.part.now.rows.now c.args.part.now.is.there) c.requires.all
+    c.args.part.now.is.table c.args.part.now.is.some c.requires.fresh.width c.requires.fresh.opened c.requires.fresh.empty in
     let root = Add (replicate c.args.builder.now.arena.now.width None) ∷ [] in
     on_ok_weaker c.drill-built.result
     (λ (d : HasDone c.args.part.now.table.now
@@ -61,8 +61,8 @@ pub returns-in-Ok-clause-fits : goal.returns-in-Ok-clause-fits
 returns-in-Ok-clause-fits g c =
     let rows = named c.args.part.now.table.now c.args.part.now.rows.now in
     let going = root_going c.args.part.now.table.now c.args.part.now.rows.now c.args.builder.now.arena.now
-    (there c.args.part.now.table.now c.args.part.now.rows.now c.requires.part.there) c.requires.all
-    c.requires.part.table c.requires.part.some c.requires.width c.requires.opened c.requires.empty in
+    (there c.args.part.now.table.now c.args.part.now.rows.now c.args.part.now.is.there) c.requires.all
+    c.args.part.now.is.table c.args.part.now.is.some c.requires.fresh.width c.requires.fresh.opened c.requires.fresh.empty in
     let root = Add (replicate c.args.builder.now.arena.now.width None) ∷ [] in
     let few : map.len c.drill-built.new.builder.arena.now.now ≤ c.drill-built.new.builder.arena.now.max
     = c.is_within.ensures in
@@ -86,8 +86,8 @@ pub returns-in-Err-clause-full : goal.returns-in-Err-clause-full
 returns-in-Err-clause-full g c = λ e.
     let rows = named c.args.part.now.table.now c.args.part.now.rows.now in
     let going = root_going c.args.part.now.table.now c.args.part.now.rows.now c.args.builder.now.arena.now
-    (there c.args.part.now.table.now c.args.part.now.rows.now c.requires.part.there) c.requires.all
-    c.requires.part.table c.requires.part.some c.requires.width c.requires.opened c.requires.empty in
+    (there c.args.part.now.table.now c.args.part.now.rows.now c.args.part.now.is.there) c.requires.all
+    c.args.part.now.is.table c.args.part.now.is.some c.requires.fresh.width c.requires.fresh.opened c.requires.fresh.empty in
     c.in-Err.ensures.full (err_again c.in-Err.error _ e) c.args.part.now.table.now.measures
     (rows_of c.args.part.now.table.now)
     (next_prefix (Add (replicate c.args.builder.now.arena.now.width None) ∷ [])
@@ -102,8 +102,8 @@ returns-in-Ok-clause-steps g c =
     let a = c.args.builder.now.arena.now in
     let b = c.drill-built.new.builder.arena.now in
     let going = root_going table c.args.part.now.rows.now a
-    (there table c.args.part.now.rows.now c.requires.part.there) c.requires.all
-    c.requires.part.table c.requires.part.some c.requires.width c.requires.opened c.requires.empty in
+    (there table c.args.part.now.rows.now c.args.part.now.is.there) c.requires.all
+    c.args.part.now.is.table c.args.part.now.is.some c.requires.fresh.width c.requires.fresh.opened c.requires.fresh.empty in
     let root = Add (replicate a.width None) ∷ [] in
     ok_both c.drill-built.result
     (λ (d : HasDone table (acts_from table 0 rows) c.add_root.new.arena b c.drill-built.new.builder.fronts.now) within.

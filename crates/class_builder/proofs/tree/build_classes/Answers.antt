@@ -1,4 +1,4 @@
-use Rattle.std.proofs.Common.{◌≡◌, ◌<◌, ◌≤◌, arith, length, nat_cmp, subst, sym}
+use Rattle.std.proofs.Common.{◌≡◌, ◌<◌, ◌≤◌, ◌∙◌, arith, length, nat_cmp, subst, sym}
 use Rattle.std.proofs.lemmas.Result.{on_ok_weaker}
 use Rattle.cube_defs.specs.Tree.{nodes}
 use Rattle.base_table.specs.Places.{rows_of}
@@ -14,6 +14,13 @@ pub build_sorted-built-requires-clause-some : goal.build_sorted-built-requires-c
 build_sorted-built-requires-clause-some g c =
     let some : 0 < length (rows_of c.args.table.now) = omega (arith, c.if-count-eq0.false, c.count.ensures.value) in
     some_left (rows_of c.args.table.now) (rows_of c.in-Ok.rows) c.in-Ok.ensures.rows some
+
+pub build_sorted-built-requires-clause-fresh : goal.build_sorted-built-requires-clause-fresh
+build_sorted-built-requires-clause-fresh g c = record {
+  opened = c.requires.opened;
+  empty = c.requires.empty;
+  width = c.requires.width ∙ sym c.in-Ok.ensures.dims;
+}
 
 pub returns-clause-fits : goal.returns-clause-fits
 returns-clause-fits g c =

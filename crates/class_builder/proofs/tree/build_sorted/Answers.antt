@@ -1,12 +1,11 @@
 use Rattle.std.proofs.Common.{◌≡◌, ◌<◌, ◌∙◌, arith, ap, length, subst, sym}
 use Rattle.base_table.specs.Places.{AreThere, named, rows_of}
-use Rattle.cube_laws.specs.Parting.{shared_by}
 use Rattle.cell_closure.proofs.CallerLemmas.{length-named, there}
 use Rattle.class_builder.proofs.Whole.{rows_few}
 use Rattle.class_builder.proofs.tree.build_sorted.Goals as goal
 
-pub build_all-requires-clause-part : goal.build_all-requires-clause-part
-build_all-requires-clause-part g c =
+pub invariant_of-part : goal.invariant_of-part
+invariant_of-part g c =
     let table = c.args.table.now in
     let rows = c.deref.result.now in
     let are : AreThere table rows = subst (AreThere table) (sym c.deref.ensures.value) c.in-Ok.ensures.there in
@@ -15,10 +14,11 @@ build_all-requires-clause-part g c =
     ∙ length-named table rows (there table rows are) in
     let some : 0 < length rows = omega (arith, c.requires.some) in
     record {
-      table = c.recall_invariant.ensures;
-      some = some;
-      few = rows_few table c.recall_invariant.ensures rows (there table rows are) all;
-      there = are;
-      shared = c.closure_of_all.ensures
-          ∙ ap (λ nos. shared_by (named table nos)) (c.deref-2.ensures.value ∙ sym c.deref.ensures.value);
+      is = record {
+        table = c.recall_invariant.ensures;
+        some = some;
+        few = rows_few table c.recall_invariant.ensures rows (there table rows are) all;
+        there = are;
+        shared = c.closure_of_all.ensures;
+      };
     }

@@ -6,6 +6,6 @@ use Rattle.class_builder.proofs.upper.closure_of_all.Given as goal
 
 abbrev pub invariant-dims : goal.invariant-dims
 invariant-dims l = record {
-  long : length l.shared ≡ l.table.dims;
-  done : (j : ℕ) → j < l.dim → entry l.shared j ≡ entry (shared_by (named l.table l.rows)) j;
+  long : length l.shared ≡ l.rows.table.now.dims;
+  done : (j : ℕ) → j < l.dim → entry l.shared j ≡ entry (shared_by (named l.rows.table.now l.rows.numbers.now)) j;
 }

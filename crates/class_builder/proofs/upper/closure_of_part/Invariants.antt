@@ -6,6 +6,6 @@ use Rattle.class_builder.proofs.upper.closure_of_part.Given as goal
 
 abbrev pub invariant-dims : goal.invariant-dims
 invariant-dims l = record {
-  long : length l.next ≡ l.table.dims;
-  done : (j : ℕ) → j < l.i → entry l.next j ≡ entry (shared_by (named l.table l.rows)) j;
+  long : length l.next ≡ l.group.table.now.dims;
+  done : (j : ℕ) → j < l.i → entry l.next j ≡ entry (shared_by (named l.group.table.now l.group.rows.now)) j;
 }

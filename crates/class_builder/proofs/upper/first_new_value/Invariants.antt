@@ -5,4 +5,4 @@ use Rattle.cube_laws.proofs.CallerLemmas.{entry}
 use Rattle.class_builder.proofs.upper.first_new_value.Given as goal
 
 abbrev pub invariant-dims : goal.invariant-dims
-invariant-dims l = (j : ℕ) → j < l.i → entry (shared_by (named l.table l.rows)) j ≡ entry l.upper j
+invariant-dims l = (j : ℕ) → j < l.i → entry (shared_by (named l.group.table.now l.group.rows.now)) j ≡ entry l.group.upper.now j

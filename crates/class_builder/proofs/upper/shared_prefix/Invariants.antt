@@ -6,6 +6,6 @@ use Rattle.class_builder.proofs.upper.shared_prefix.Given as goal
 
 abbrev pub invariant-dims : goal.invariant-dims
 invariant-dims l = record {
-  long : length l.front ≡ l.table.dims;
-  done : (j : ℕ) → j < l.i → entry l.front j ≡ entry (shared_by (named l.table l.rows)) j;
+  long : length l.front ≡ l.group.table.now.dims;
+  done : (j : ℕ) → j < l.i → entry l.front j ≡ entry (shared_by (named l.group.table.now l.group.rows.now)) j;
 }

@@ -17,7 +17,7 @@ use Rattle.qc_arena.specs.Map.{Arena, frame}
 use Rattle.class_builder.specs.declared.prefix_nodes.PrefixNodes.{PrefixNodes}
 use Rattle.class_builder.specs.Costs.{cost_of_acts}
 use Rattle.class_builder.specs.Stands.{HasDone, StandsAt}
-use Rattle.class_builder.specs.Walk.{IsGroup, IsPart, acts_from, prefix_acts, node_on}
+use Rattle.class_builder.specs.Walk.{acts_from, prefix_acts, node_on}
 use Rattle.build_trace.proofs.CallerLemmas.{cell_prefix_all, cell_prefix_still}
 use Rattle.class_builder.proofs.Uppers.{AreCovered, differs_after}
 use Rattle.class_builder.proofs.Costs.{cost_append}
@@ -40,18 +40,15 @@ drill-drill_at-requires g t c =
       search rules,
       (
         h,
-        (
-          c.requires.part,
-          (
-            lt,
-            stands_prefix table es fs c.args.part.now.shared c.dims.dim c.dims.builder.arena.now c.dims.path
-                c.dims.builder.fronts.now
-                (subst (λ xs. StandsAt table c.args.part.now.shared c.dims.dim xs c.dims.builder.arena.now c.dims.path
-                c.dims.builder.fronts.now)
-                (acts_here table c.dims.dim c.args.part.now.shared rows lt c.requires.part.shared)
-                c.dims.invariant.stands),
-          ),
-        ),
+        record {
+          below = lt;
+          at = stands_prefix table es fs c.args.part.now.shared c.dims.dim c.dims.builder.arena.now c.dims.path
+              c.dims.builder.fronts.now
+              (subst (λ xs. StandsAt table c.args.part.now.shared c.dims.dim xs c.dims.builder.arena.now c.dims.path
+              c.dims.builder.fronts.now)
+              (acts_here table c.dims.dim c.args.part.now.shared rows lt c.args.part.now.is.shared)
+              c.dims.invariant.stands);
+        },
       ),
     )
 
@@ -70,7 +67,7 @@ drill-dims-preserved g t c =
     let table = c.args.part.now.table.now in
     let rows = named table c.args.part.now.rows.now in
     let lt : c.dims.dim < table.dims = subst (λ n. c.dims.dim < n) c.dims-dim-end.ensures.value c.dims-test.true in
-    let here = acts_here table c.dims.dim c.args.part.now.shared rows lt c.requires.part.shared in
+    let here = acts_here table c.dims.dim c.args.part.now.shared rows lt c.args.part.now.is.shared in
     let es = acts_at (acts_from table (c.dims.dim + 1)) c.dims.dim c.args.part.now.shared
     (entry c.args.part.now.shared c.dims.dim) rows in
     let fs = acts_from table (c.dims.dim + 1) rows in
@@ -109,11 +106,11 @@ drill-returns-clause-done g t c =
     let rows = named table c.args.part.now.rows.now in
     let le : table.dims ≤ c.dims.dim = subst (λ n. n ≤ c.dims.dim) c.dims-dim-end.ensures.value c.dims-test.false in
     let most : c.dims-2.result ≤ c.dims.dim = subst (λ n. n ≤ c.dims.dim) (sym c.dims-2.ensures.value) le in
-    let long = part_long table c.args.part.now.rows.now c.args.part.now.shared c.requires.part in
+    let long = part_long table c.args.part.now.rows.now c.args.part.now.shared c.args.part.now.is in
     let all : length c.args.part.now.shared ≤ c.dims-2.result = omega (arith, long, c.dims-2.ensures.value) in
     let at = on_path c.dims.builder.arena.now c.dims.path c.args.part.now.shared c.dims.dim c.dims-2.result
     c.at.result.0 c.dims.invariant.stands.path most c.at.ensures
-    ∙ ap (λ u. Some u) (cell_prefix_all c.dims-2.result c.args.part.now.shared all ∙ c.requires.part.shared) in
+    ∙ ap (λ u. Some u) (cell_prefix_all c.dims-2.result c.args.part.now.shared all ∙ c.args.part.now.is.shared) in
     c.dims.invariant.whole c.mark_class.new.arena c.dims.builder.fronts.now (record {
       does = subst (λ xs. PerformsActs table.measures (rows_of table) xs c.dims.builder.arena.now
           c.mark_class.new.arena)
@@ -126,18 +123,20 @@ drill-returns-clause-done g t c =
 pub drill_at-get-requires : goal.drill_at-get-requires
 drill_at-get-requires g t c
     = subst (λ n. c.args.dim < n)
-    (sym (part_long c.args.part.now.table.now c.args.part.now.rows.now c.args.part.now.shared c.requires.part))
-    c.requires.dim
+    (sym (part_long c.args.part.now.table.now c.args.part.now.rows.now c.args.part.now.shared c.args.part.now.is))
+    c.requires.below
 
 pub drill_at-add_prefix_node-requires-clause-value : goal.drill_at-add_prefix_node-requires-clause-value
 drill_at-add_prefix_node-requires-clause-value g t c = sym c.in-Is.ensures.value
 
 pub drill_at-add_prefix_node-requires-clause-stands : goal.drill_at-add_prefix_node-requires-clause-stands
-drill_at-add_prefix_node-requires-clause-stands g t c =
-    subst (λ o. StandsAt c.args.part.now.table.now c.args.part.now.shared c.args.dim
-    (acts_at (acts_from c.args.part.now.table.now (c.args.dim + 1)) c.args.dim c.args.part.now.shared o
-    (named c.args.part.now.table.now c.args.part.now.rows.now)) c.args.builder.now.arena.now c.args.path.now
-    c.args.builder.now.fronts.now) (sym c.in-Is.ensures.value) c.requires.stands
+drill_at-add_prefix_node-requires-clause-stands g t c = record {
+  below = c.requires.below;
+  at = subst (λ o. StandsAt c.args.part.now.table.now c.args.part.now.shared c.args.dim
+      (acts_at (acts_from c.args.part.now.table.now (c.args.dim + 1)) c.args.dim c.args.part.now.shared o
+      (named c.args.part.now.table.now c.args.part.now.rows.now)) c.args.builder.now.arena.now c.args.path.now
+      c.args.builder.now.fronts.now) (sym c.in-Is.ensures.value) c.requires.at;
+}
 
 pub drill_at-returns-in-Is-clause-done : goal.drill_at-returns-in-Is-clause-done
 drill_at-returns-in-Is-clause-done g t c =
@@ -153,16 +152,13 @@ drill_at-drill_in-requires g t c = λ κs h. (
   search rules,
   (
     h,
-    (
-      c.requires.part,
-      (
-        c.requires.dim,
-        subst (λ o. StandsAt c.args.part.now.table.now c.args.part.now.shared c.args.dim
-            (acts_at (acts_from c.args.part.now.table.now (c.args.dim + 1)) c.args.dim c.args.part.now.shared o
-            (named c.args.part.now.table.now c.args.part.now.rows.now)) c.args.builder.now.arena.now c.args.path.now
-            c.args.builder.now.fronts.now) (sym c.in-Any.ensures.value) c.requires.stands,
-      ),
-    ),
+    record {
+      below = c.requires.below;
+      at = subst (λ o. StandsAt c.args.part.now.table.now c.args.part.now.shared c.args.dim
+          (acts_at (acts_from c.args.part.now.table.now (c.args.dim + 1)) c.args.dim c.args.part.now.shared o
+          (named c.args.part.now.table.now c.args.part.now.rows.now)) c.args.builder.now.arena.now c.args.path.now
+          c.args.builder.now.fronts.now) (sym c.in-Any.ensures.value) c.requires.at;
+    },
   ),
 )
 
@@ -176,7 +172,7 @@ drill_at-returns-in-Ok-clause-done g t c =
 pub drill_at-returns-in-Ok-clause-path : goal.drill_at-returns-in-Ok-clause-path
 drill_at-returns-in-Ok-clause-path g t c =
     let on = path_stays c.args.builder.now.arena.now c.drill_in.new.builder.arena.now c.args.path.now
-    c.args.part.now.shared c.args.dim c.in-Ok.ensures.done.does.cells c.requires.stands.path in
+    c.args.part.now.shared c.args.dim c.in-Ok.ensures.done.does.cells c.requires.at.path in
     path_on c.drill_in.new.builder.arena.now c.args.path.now c.set.new.self c.args.part.now.shared c.args.dim on
     c.set.ensures.others
     (on_end c.drill_in.new.builder.arena.now c.args.path.now c.args.part.now.shared c.args.dim
@@ -187,7 +183,48 @@ pub drill_in-groups_of-requires-clause-node : goal.drill_in-groups_of-requires-c
 drill_in-groups_of-requires-clause-node g t c
     = lists.there c.args.builder.now.arena.now.now c.at.result.0 (cell_prefix c.args.dim c.args.part.now.shared)
     (on_end c.args.builder.now.arena.now c.args.path.now c.args.part.now.shared c.args.dim c.at.result.0
-    c.requires.stands.path c.at.ensures)
+    c.requires.at.path c.at.ensures)
+
+-- the rows of a part are a group
+pub drill_in-invariant_of-group : goal.drill_in-invariant_of-group
+drill_in-invariant_of-group g t c =
+    let table = c.args.part.now.table.now in
+    let nos = c.args.part.now.rows.now in
+    let l : length c.in-Ok.parts ≡ length (parted table nos c.args.dim) = ap length c.in-Ok.ensures.parts in
+    let lt : c.parts.k < length (parted table nos c.args.dim)
+    = subst (λ n. c.parts.k < n) (c.len-k-end.ensures ∙ l) c.parts-test.true in
+    let is : c.rows.result.now ≡ (get_or (parted table nos c.args.dim) c.parts.k no_part).rows
+    = c.rows.ensures ∙ ap (λ p. (get_or p c.parts.k no_part).rows) c.in-Ok.ensures.parts in
+    let code : c.code.result ≡ (get_or (parted table nos c.args.dim) c.parts.k no_part).code
+    = c.code.ensures ∙ ap (λ p. (get_or p c.parts.k no_part).code) c.in-Ok.ensures.parts in
+    let here : There table nos = there table nos c.args.part.now.is.there in
+    let few : length c.rows.result.now ≤ length nos
+    = subst (λ r. length r ≤ length nos) (sym is)
+    (part_few table c.args.part.now.is.table nos here c.args.dim c.parts.k lt) in
+    let v = code ∙ part_is table c.args.part.now.is.table nos here c.args.dim c.parts.k lt in
+    record {
+      is = record {
+        under = record {
+          table = c.args.part.now.is.table;
+          some = subst (λ r. 0 < length r) (sym is)
+              (part_some table c.args.part.now.is.table nos here c.args.dim c.parts.k lt);
+          there = recursion_all (λ n. is_some (row_at table n.0) ≡ true) c.rows.result.now
+              (subst (There table) (sym is) (part_there table c.args.part.now.is.table nos here c.args.dim c.parts.k lt));
+          covered = subst (λ r. AreCovered c.args.part.now.shared (named table r)) (sym is)
+              (part_covered table c.args.part.now.is.table nos here c.args.dim c.parts.k lt c.args.part.now.shared
+              (shared_there table c.args.part.now.is.table nos here c.args.part.now.is.some
+              ∙ ap (λ u. Some u) (sym c.args.part.now.is.shared)));
+          long = part_long table nos c.args.part.now.shared c.args.part.now.is;
+        };
+        few = let most = c.args.part.now.is.few in omega (arith, few, most);
+        dim = c.requires.below;
+        value = ap (λ r. entry (shared_by (named table r)) c.args.dim) is
+            ∙ part_value table c.args.part.now.is.table nos here c.args.dim c.parts.k lt c.requires.below
+            ∙ ap (λ x. Some x) (sym v);
+        small = subst IsCode (sym v)
+            (part_small table c.args.part.now.is.table nos here c.args.dim c.parts.k lt c.requires.below);
+      };
+    }
 
 pub drill_in-drill_part-requires : goal.drill_in-drill_part-requires
 drill_in-drill_part-requires g t c =
@@ -200,11 +237,7 @@ drill_in-drill_part-requires g t c =
     = c.rows.ensures ∙ ap (λ p. (get_or p c.parts.k no_part).rows) c.in-Ok.ensures.parts in
     let code : c.code.result ≡ (get_or (parted table nos c.args.dim) c.parts.k no_part).code
     = c.code.ensures ∙ ap (λ p. (get_or p c.parts.k no_part).code) c.in-Ok.ensures.parts in
-    let here : There table nos = there table nos c.requires.part.there in
-    let few : length c.rows.result.now ≤ length nos
-    = subst (λ r. length r ≤ length nos) (sym is)
-    (part_few table c.requires.part.table nos here c.args.dim c.parts.k lt) in
-    let v = code ∙ part_is table c.requires.part.table nos here c.args.dim c.parts.k lt in
+    let here : There table nos = there table nos c.args.part.now.is.there in
     let more = acts_from table (c.args.dim + 1) in
     let acts = ap₂ (λ x r. part_acts more c.args.dim c.args.part.now.shared x (named table r)) (sym code) (sym is) in
     let part = get_or (parted table nos c.args.dim) c.parts.k no_part in
@@ -214,38 +247,14 @@ drill_in-drill_part-requires g t c =
     c.args.dim c.parts.builder.arena.now c.args.path.now c.parts.builder.fronts.now
     (subst (λ xs. StandsAt table c.args.part.now.shared c.args.dim xs c.parts.builder.arena.now c.args.path.now
     c.parts.builder.fronts.now)
-    (parts_here table c.requires.part.table nos here c.args.dim c.parts.k lt c.args.part.now.shared)
+    (parts_here table c.args.part.now.is.table nos here c.args.dim c.parts.k lt c.args.part.now.shared)
     c.parts.invariant.stands) in
-    let group : IsGroup table c.rows.result.now c.code.result c.args.part.now.shared c.args.dim = record {
-      under = record {
-        table = c.requires.part.table;
-        some = subst (λ r. 0 < length r) (sym is)
-            (part_some table c.requires.part.table nos here c.args.dim c.parts.k lt);
-        there = recursion_all (λ n. is_some (row_at table n.0) ≡ true) c.rows.result.now
-            (subst (There table) (sym is) (part_there table c.requires.part.table nos here c.args.dim c.parts.k lt));
-        covered = subst (λ r. AreCovered c.args.part.now.shared (named table r)) (sym is)
-            (part_covered table c.requires.part.table nos here c.args.dim c.parts.k lt c.args.part.now.shared
-            (shared_there table c.requires.part.table nos here c.requires.part.some
-            ∙ ap (λ u. Some u) (sym c.requires.part.shared)));
-        long = part_long table nos c.args.part.now.shared c.requires.part;
-      };
-      few = let most = c.requires.part.few in omega (arith, few, most);
-      dim = c.requires.dim;
-      value = ap (λ r. entry (shared_by (named table r)) c.args.dim) is
-          ∙ part_value table c.requires.part.table nos here c.args.dim c.parts.k lt c.requires.dim
-          ∙ ap (λ x. Some x) (sym v);
-      small = subst IsCode (sym v)
-          (part_small table c.requires.part.table nos here c.args.dim c.parts.k lt c.requires.dim);
-    } in
     λ κs h. (
       search rules,
       (
         h,
-        (
-          group,
-          subst (λ xs. StandsAt table c.args.part.now.shared c.args.dim xs c.parts.builder.arena.now
-              c.args.path.now c.parts.builder.fronts.now) acts stands,
-        ),
+        subst (λ xs. StandsAt table c.args.part.now.shared c.args.dim xs c.parts.builder.arena.now c.args.path.now
+            c.parts.builder.fronts.now) acts stands,
       ),
     )
 
@@ -260,11 +269,11 @@ drill_in-parts-preserved g t c =
     = c.rows.ensures ∙ ap (λ p. (get_or p c.parts.k no_part).rows) c.in-Ok.ensures.parts in
     let code : c.code.result ≡ (get_or (parted table nos c.args.dim) c.parts.k no_part).code
     = c.code.ensures ∙ ap (λ p. (get_or p c.parts.k no_part).code) c.in-Ok.ensures.parts in
-    let here : There table nos = there table nos c.requires.part.there in
+    let here : There table nos = there table nos c.args.part.now.is.there in
     let more = acts_from table (c.args.dim + 1) in
     let es = part_acts more c.args.dim c.args.part.now.shared c.code.result (named table c.rows.result.now) in
     let fs = parts_from table c.args.dim c.args.part.now.shared (named table nos) (c.parts.k + 1) in
-    let split = parts_here table c.requires.part.table nos here c.args.dim c.parts.k lt c.args.part.now.shared
+    let split = parts_here table c.args.part.now.is.table nos here c.args.dim c.parts.k lt c.args.part.now.shared
     ∙ ap₂ (λ x r. part_acts more c.args.dim c.args.part.now.shared x (named table r) ++ fs) (sym code) (sym is) in
     let a = c.parts.builder.arena.now in
     let b = c.drill_part.new.builder.arena.now in
@@ -295,7 +304,7 @@ drill_in-returns-in-Ok-give_back-clause-done g t c =
     = subst (λ n. n ≤ c.parts.k) (c.len-k-end.ensures ∙ l) c.parts-test.false in
     c.parts.invariant.whole c.parts.builder.arena.now c.parts.builder.fronts.now
     (subst (λ xs. HasDone table xs c.parts.builder.arena.now c.parts.builder.arena.now c.parts.builder.fronts.now)
-    (sym (parts_end table c.requires.part.table nos (there table nos c.requires.part.there) c.args.dim c.parts.k
+    (sym (parts_end table c.args.part.now.is.table nos (there table nos c.args.part.now.is.there) c.args.dim c.parts.k
     c.args.part.now.shared le))
     (done_nothing table c.parts.builder.arena.now c.parts.builder.fronts.now c.parts.invariant.stands.fronts))
 
@@ -304,78 +313,79 @@ pub drill_part-add_prefix_node-requires-clause-stands : goal.drill_part-add_pref
 drill_part-add_prefix_node-requires-clause-stands g t c =
     let table = c.args.group.now.table.now in
     let part = named table c.args.group.now.rows.now in
-    let more = acts_from table (c.args.dim + 1) in
-    let split = part_new more c.args.dim c.args.group.now.upper.now c.args.group.now.code part c.in-None.ensures.none
-    ∙ ap (λ s. prefix_acts false s c.args.dim c.args.group.now.code ++ more part) (sym c.closure_of_part.ensures) in
-    let s = stands_prefix table (prefix_acts false c.closure_of_part.result c.args.dim c.args.group.now.code)
-    (more part) c.args.group.now.upper.now c.args.dim c.args.builder.now.arena.now c.args.path.now
+    let more = acts_from table (c.args.group.now.dim + 1) in
+    let split = part_new more c.args.group.now.dim c.args.group.now.upper.now c.args.group.now.code part c.in-None.ensures.none
+    ∙ ap (λ s. prefix_acts false s c.args.group.now.dim c.args.group.now.code ++ more part) (sym c.closure_of_part.ensures) in
+    let s = stands_prefix table (prefix_acts false c.closure_of_part.result c.args.group.now.dim c.args.group.now.code)
+    (more part) c.args.group.now.upper.now c.args.group.now.dim c.args.builder.now.arena.now c.args.path.now
     c.args.builder.now.fronts.now
-    (subst (λ xs. StandsAt table c.args.group.now.upper.now c.args.dim xs c.args.builder.now.arena.now c.args.path.now
-    c.args.builder.now.fronts.now) split c.requires.stands) in
+    (subst (λ xs. StandsAt table c.args.group.now.upper.now c.args.group.now.dim xs c.args.builder.now.arena.now c.args.path.now
+    c.args.builder.now.fronts.now) split c.requires) in
     record {
-      width = s.width;
-      next = s.next;
-      path = path_of c.args.builder.now.arena.now c.args.path.now c.args.group.now.upper.now c.closure_of_part.result
-          c.args.dim (sym (cell_eq-exact nat_equality _ _ c.in-None.ensures.none)
-          ∙ ap (cell_prefix c.args.dim) (sym c.closure_of_part.ensures)) s.path;
-      fronts = s.fronts;
+      below = c.args.group.now.is.dim;
+      at = record {
+        width = s.width;
+        next = s.next;
+        path = path_of c.args.builder.now.arena.now c.args.path.now c.args.group.now.upper.now c.closure_of_part.result
+            c.args.group.now.dim (sym (cell_eq-exact nat_equality _ _ c.in-None.ensures.none)
+            ∙ ap (cell_prefix c.args.group.now.dim) (sym c.closure_of_part.ensures)) s.path;
+        fronts = s.fronts;
+      };
     }
 
 pub drill_part-drill-requires : goal.drill_part-drill-requires
 drill_part-drill-requires g t c =
     let table = c.args.group.now.table.now in
     let part = named table c.args.group.now.rows.now in
-    let more = acts_from table (c.args.dim + 1) in
-    let split = part_new more c.args.dim c.args.group.now.upper.now c.args.group.now.code part c.in-None.ensures.none
-    ∙ ap (λ s. prefix_acts false s c.args.dim c.args.group.now.code ++ more part) (sym c.closure_of_part.ensures) in
-    let stands = stands_behind table (prefix_acts false c.closure_of_part.result c.args.dim c.args.group.now.code)
-    (more part) c.args.group.now.upper.now c.closure_of_part.result c.args.dim
-    (c.args.dim + 1) c.args.builder.now.arena.now c.add_prefix_node.new.builder.arena.now c.args.path.now
+    let more = acts_from table (c.args.group.now.dim + 1) in
+    let split = part_new more c.args.group.now.dim c.args.group.now.upper.now c.args.group.now.code part c.in-None.ensures.none
+    ∙ ap (λ s. prefix_acts false s c.args.group.now.dim c.args.group.now.code ++ more part) (sym c.closure_of_part.ensures) in
+    let stands = stands_behind table (prefix_acts false c.closure_of_part.result c.args.group.now.dim c.args.group.now.code)
+    (more part) c.args.group.now.upper.now c.closure_of_part.result c.args.group.now.dim
+    (c.args.group.now.dim + 1) c.args.builder.now.arena.now c.add_prefix_node.new.builder.arena.now c.args.path.now
     c.add_prefix_node.new.path c.args.builder.now.fronts.now c.add_prefix_node.new.builder.fronts.now
-    (subst (λ xs. StandsAt table c.args.group.now.upper.now c.args.dim xs c.args.builder.now.arena.now c.args.path.now
-    c.args.builder.now.fronts.now) split c.requires.stands) c.in-Ok-add_prefix_node.ensures.done
+    (subst (λ xs. StandsAt table c.args.group.now.upper.now c.args.group.now.dim xs c.args.builder.now.arena.now c.args.path.now
+    c.args.builder.now.fronts.now) split c.requires) c.in-Ok-add_prefix_node.ensures.done
     c.in-Ok-add_prefix_node.ensures.frame c.in-Ok-add_prefix_node.ensures.path in
-    let is_part : IsPart table c.args.group.now.rows.now c.closure_of_part.result = record {
-      table = c.requires.group.under.table;
-      some = c.requires.group.under.some;
-      few = c.requires.group.few;
-      there = c.requires.group.under.there;
-      shared = c.closure_of_part.ensures;
-    } in
-    λ κs h. (search rules, (h, (is_part, (add-one-le c.requires.group.dim, stands))))
+    λ κs h. (search rules, (h, (add-one-le c.args.group.now.is.dim, stands)))
 
 pub drill_part-returns-in-Ok-add_prefix_node-clause-done : goal.drill_part-returns-in-Ok-add_prefix_node-clause-done
 drill_part-returns-in-Ok-add_prefix_node-clause-done g t c =
     let table = c.args.group.now.table.now in
     let part = named table c.args.group.now.rows.now in
-    let more = acts_from table (c.args.dim + 1) in
-    let split = part_new more c.args.dim c.args.group.now.upper.now c.args.group.now.code part c.in-None.ensures.none
-    ∙ ap (λ s. prefix_acts false s c.args.dim c.args.group.now.code ++ more part) (sym c.closure_of_part.ensures) in
+    let more = acts_from table (c.args.group.now.dim + 1) in
+    let split = part_new more c.args.group.now.dim c.args.group.now.upper.now c.args.group.now.code part c.in-None.ensures.none
+    ∙ ap (λ s. prefix_acts false s c.args.group.now.dim c.args.group.now.code ++ more part) (sym c.closure_of_part.ensures) in
     on_ok_weaker c.drill.result
     (λ e. subst (λ xs. HasDone table xs c.args.builder.now.arena.now c.drill.new.builder.arena.now
     c.drill.new.builder.fronts.now) (sym split)
-    (done_then table (prefix_acts false c.closure_of_part.result c.args.dim c.args.group.now.code)
+    (done_then table (prefix_acts false c.closure_of_part.result c.args.group.now.dim c.args.group.now.code)
     (more part) c.args.builder.now.arena.now c.add_prefix_node.new.builder.arena.now c.drill.new.builder.arena.now
     c.add_prefix_node.new.builder.fronts.now c.drill.new.builder.fronts.now c.in-Ok-add_prefix_node.ensures.done e))
     c.drill.ensures.done
 
-pub drill_part-link_part-requires-clause-stands : goal.drill_part-link_part-requires-clause-stands
-drill_part-link_part-requires-clause-stands g t c =
-    subst (λ xs. StandsAt c.args.group.now.table.now c.args.group.now.upper.now c.args.dim xs
-    c.args.builder.now.arena.now c.args.path.now c.args.builder.now.fronts.now)
-    (part_old (acts_from c.args.group.now.table.now (c.args.dim + 1)) c.args.dim c.args.group.now.upper.now
-    c.args.group.now.code (named c.args.group.now.table.now c.args.group.now.rows.now)
-    (differs_after c.in-Some.at c.args.dim _ c.args.group.now.upper.now c.in-Some.ensures.before
-    c.in-Some.ensures.gains))
-    c.requires.stands
+pub drill_part-link_part-requires : goal.drill_part-link_part-requires
+drill_part-link_part-requires g t c = record {
+  before = c.in-Some.ensures.before;
+  front = c.in-Some.ensures.front;
+  gains = c.in-Some.ensures.gains;
+  at =
+      subst (λ xs. StandsAt c.args.group.now.table.now c.args.group.now.upper.now c.args.group.now.dim xs
+      c.args.builder.now.arena.now c.args.path.now c.args.builder.now.fronts.now)
+      (part_old (acts_from c.args.group.now.table.now (c.args.group.now.dim + 1)) c.args.group.now.dim c.args.group.now.upper.now
+      c.args.group.now.code (named c.args.group.now.table.now c.args.group.now.rows.now)
+      (differs_after c.in-Some.at c.args.group.now.dim _ c.args.group.now.upper.now c.in-Some.ensures.before
+      c.in-Some.ensures.gains))
+      c.requires;
+}
 
 pub drill_part-returns-in-Ok-clause-done : goal.drill_part-returns-in-Ok-clause-done
 drill_part-returns-in-Ok-clause-done g t c =
     subst (λ xs. HasDone c.args.group.now.table.now xs c.args.builder.now.arena.now c.link_part.new.builder.arena.now
     c.link_part.new.builder.fronts.now)
-    (sym (part_old (acts_from c.args.group.now.table.now (c.args.dim + 1)) c.args.dim c.args.group.now.upper.now
+    (sym (part_old (acts_from c.args.group.now.table.now (c.args.group.now.dim + 1)) c.args.group.now.dim c.args.group.now.upper.now
     c.args.group.now.code (named c.args.group.now.table.now c.args.group.now.rows.now)
-    (differs_after c.in-Some.at c.args.dim _ c.args.group.now.upper.now c.in-Some.ensures.before
+    (differs_after c.in-Some.at c.args.group.now.dim _ c.args.group.now.upper.now c.in-Some.ensures.before
     c.in-Some.ensures.gains)))
     c.in-Ok.ensures.done
 
@@ -391,65 +401,19 @@ drill_in-parts-init g t c = record {
       (subst (λ (f : PrefixNodes). StandsAt c.args.part.now.table.now c.args.part.now.shared c.args.dim
       (acts_at (acts_from c.args.part.now.table.now (c.args.dim + 1)) c.args.dim c.args.part.now.shared None
       (named c.args.part.now.table.now c.args.part.now.rows.now)) c.args.builder.now.arena.now c.args.path.now f)
-      (sym c.groups_of.ensures.fronts) c.requires.stands);
+      (sym c.groups_of.ensures.fronts) c.requires.at);
   rest = ap frame c.groups_of.ensures.arena;
   same = c.groups_of.ensures.same;
   same_steps = c.groups_of.ensures.same_steps;
   steps = omega (arith, c.groups_of.ensures.steps);
 }
 
-pub drill_part-first_new_value-requires : goal.drill_part-first_new_value-requires
-drill_part-first_new_value-requires g t c = record { under = c.requires.group.under; dim = c.requires.group.dim }
-
-pub drill_part-closure_of_part-requires : goal.drill_part-closure_of_part-requires
-drill_part-closure_of_part-requires g t c = record {
-  under = c.requires.group.under;
-  dim = c.requires.group.dim;
-  value
-      = ap is_some c.requires.group.value;
-  front = c.in-None.ensures.none;
-}
-
-pub drill_part-add_prefix_node-requires-clause-part : goal.drill_part-add_prefix_node-requires-clause-part
-drill_part-add_prefix_node-requires-clause-part g t c
-    = record {
-      table = c.requires.group.under.table;
-      some = c.requires.group.under.some;
-      few = c.requires.group.few;
-      there = c.requires.group.under.there;
-      shared = c.closure_of_part.ensures;
-    }
-
-pub drill_part-add_prefix_node-requires-clause-dim : goal.drill_part-add_prefix_node-requires-clause-dim
-drill_part-add_prefix_node-requires-clause-dim g t c = c.requires.group.dim
-
 pub drill_part-add_prefix_node-requires-clause-value : goal.drill_part-add_prefix_node-requires-clause-value
-drill_part-add_prefix_node-requires-clause-value g t c = ap (λ u. entry u c.args.dim) c.closure_of_part.ensures
-    ∙ c.requires.group.value
+drill_part-add_prefix_node-requires-clause-value g t c = ap (λ u. entry u c.args.group.now.dim) c.closure_of_part.ensures
+    ∙ c.args.group.now.is.value
 
 pub drill_part-add_prefix_node-requires-clause-small : goal.drill_part-add_prefix_node-requires-clause-small
-drill_part-add_prefix_node-requires-clause-small g t c = c.requires.group.small
-
-pub drill_part-link_part-requires-clause-group : goal.drill_part-link_part-requires-clause-group
-drill_part-link_part-requires-clause-group g t c = c.requires.group
-
-pub drill_part-link_part-requires-clause-at : goal.drill_part-link_part-requires-clause-at
-drill_part-link_part-requires-clause-at g t c = c.in-Some.ensures.before
-
-pub drill_part-link_part-requires-clause-front : goal.drill_part-link_part-requires-clause-front
-drill_part-link_part-requires-clause-front g t c = c.in-Some.ensures.front
-
-pub drill_part-link_part-requires-clause-gains : goal.drill_part-link_part-requires-clause-gains
-drill_part-link_part-requires-clause-gains g t c = c.in-Some.ensures.gains
-
-pub drill-total-agg-requires : goal.drill-total-agg-requires
-drill-total-agg-requires g t c = record {
-  table = c.requires.part.table;
-  some = c.requires.part.some;
-  few
-      = c.requires.part.few;
-  there = c.requires.part.there;
-}
+drill_part-add_prefix_node-requires-clause-small g t c = c.args.group.now.is.small
 
 pub drill-returns-clause-steps : goal.drill-returns-clause-steps
 drill-returns-clause-steps g t c =
@@ -464,7 +428,7 @@ drill_at-returns-in-Is-clause-steps g t c =
     let table = c.args.part.now.table.now in
     let cost = ap (λ o. cost_of_acts table.dims (acts_at (acts_from table (c.args.dim + 1)) c.args.dim
     c.args.part.now.shared o (named table c.args.part.now.rows.now))) c.in-Is.ensures.value in
-    ok_always c.add_prefix_node.result (omega (arith, c.add_prefix_node.ensures.steps, cost, c.requires.dim))
+    ok_always c.add_prefix_node.result (omega (arith, c.add_prefix_node.ensures.steps, cost, c.requires.below))
 
 pub drill_at-returns-in-Ok-clause-steps : goal.drill_at-returns-in-Ok-clause-steps
 drill_at-returns-in-Ok-clause-steps g t c =
@@ -480,20 +444,20 @@ pub drill_part-returns-in-Ok-add_prefix_node-clause-steps : goal.drill_part-retu
 drill_part-returns-in-Ok-add_prefix_node-clause-steps g t c =
     let table = c.args.group.now.table.now in
     let part = named table c.args.group.now.rows.now in
-    let more = acts_from table (c.args.dim + 1) in
-    let first = prefix_acts false (shared_by part) c.args.dim c.args.group.now.code in
-    let cost = ap (cost_of_acts table.dims) (part_new more c.args.dim c.args.group.now.upper.now
+    let more = acts_from table (c.args.group.now.dim + 1) in
+    let first = prefix_acts false (shared_by part) c.args.group.now.dim c.args.group.now.code in
+    let cost = ap (cost_of_acts table.dims) (part_new more c.args.group.now.dim c.args.group.now.upper.now
     c.args.group.now.code part c.in-None.ensures.none) ∙ cost_append table.dims first (more part) in
     on_ok_weaker c.drill.result
-    (λ within. omega (arith, within, c.in-Ok-add_prefix_node.ensures.steps, cost, c.requires.group.dim))
+    (λ within. omega (arith, within, c.in-Ok-add_prefix_node.ensures.steps, cost, c.args.group.now.is.dim))
     c.drill.ensures.steps
 
 pub drill_part-returns-in-Ok-clause-steps : goal.drill_part-returns-in-Ok-clause-steps
 drill_part-returns-in-Ok-clause-steps g t c =
     let table = c.args.group.now.table.now in
     let part = named table c.args.group.now.rows.now in
-    let cost = ap (cost_of_acts table.dims) (part_old (acts_from table (c.args.dim + 1)) c.args.dim
+    let cost = ap (cost_of_acts table.dims) (part_old (acts_from table (c.args.group.now.dim + 1)) c.args.group.now.dim
     c.args.group.now.upper.now c.args.group.now.code part
-    (differs_after c.in-Some.at c.args.dim _ c.args.group.now.upper.now c.in-Some.ensures.before
+    (differs_after c.in-Some.at c.args.group.now.dim _ c.args.group.now.upper.now c.in-Some.ensures.before
     c.in-Some.ensures.gains)) in
-    omega (arith, c.in-Ok.ensures.steps, cost, c.requires.group.dim)
+    omega (arith, c.in-Ok.ensures.steps, cost, c.args.group.now.is.dim)

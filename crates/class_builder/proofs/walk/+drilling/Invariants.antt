@@ -19,7 +19,7 @@ abbrev pub decreases-drill_in : goal.decreases-drill_in
 decreases-drill_in g l = 4 * (l.part.now.table.now.dims - l.dim) + 1
 
 abbrev pub decreases-drill_part : goal.decreases-drill_part
-decreases-drill_part g l = 4 * (l.group.now.table.now.dims - l.dim)
+decreases-drill_part g l = 4 * (l.group.now.table.now.dims - l.group.now.dim)
 
 -- who does what is to come has done the whole
 abbrev pub invariant-drill-dims : goal.invariant-drill-dims

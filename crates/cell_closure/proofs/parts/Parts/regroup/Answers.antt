@@ -9,26 +9,26 @@ use Rattle.cell_closure.proofs.parts.Parts.regroup.Given as given
 use Rattle.cell_closure.proofs.parts.Parts.regroup.Goals as goal
 
 is_parted : (g : given.Over) (c : goal.In_ok-list_cuts g) → pieces c.list_cuts.new.cuts.items c.list_rows.new.rows.items
-    ≡ parted (g.R.CodedRows.rows c.args.table.now) c.args.rows.now c.args.dim
+    ≡ parted (g.R.CodedRows.rows c.args.rows.now.table.now) c.args.rows.now.numbers.now c.args.dim
 is_parted g c =
     ap (pieces c.list_cuts.new.cuts.items) (c.in_ok-list_rows.ensures
     ∙ ap (map (λ k. k.row)) (c.deref.ensures.value ∙ sym c.deref-2.ensures.value))
     ∙ c.in_ok-list_cuts.ensures.runs
     ∙ ap runs c.deref-2.ensures.value
-    ∙ parts_are (g.R.CodedRows.rows c.args.table.now) c.args.rows.now c.args.dim c.read_codes.new.keyed.items
+    ∙ parts_are (g.R.CodedRows.rows c.args.rows.now.table.now) c.args.rows.now.numbers.now c.args.dim c.read_codes.new.keyed.items
     c.sort_by_code.new.sorter.keyed.items c.in_ok-most.ensures.keyed c.in_ok-sort_by_code.ensures
 
 pub invariant_of-self-2 : goal.invariant_of-self-2
 invariant_of-self-2 g c =
-    let few : length (parted (g.R.CodedRows.rows c.args.table.now) c.args.rows.now c.args.dim) ≤ c.in_ok-most.most
-    = few_parts (g.R.CodedRows.rows c.args.table.now) c.args.rows.now c.args.dim c.in_ok-most.most c.read_codes.new.keyed.items
+    let few : length (parted (g.R.CodedRows.rows c.args.rows.now.table.now) c.args.rows.now.numbers.now c.args.dim) ≤ c.in_ok-most.most
+    = few_parts (g.R.CodedRows.rows c.args.rows.now.table.now) c.args.rows.now.numbers.now c.args.dim c.in_ok-most.most c.read_codes.new.keyed.items
     c.in_ok-most.ensures.keyed
     (all_recursion (λ k. k.code < c.in_ok-most.most) c.read_codes.new.keyed.items c.in_ok-most.ensures.below) in
     let small : c.in_ok-most.most ≤ 4000000 = c.in_ok-most.ensures.small in
     let l : length (pieces c.list_cuts.new.cuts.items c.list_rows.new.rows.items) ≡ length c.list_cuts.new.cuts.items
     = length-map c.list_cuts.new.cuts.items _ in
     let m : length (pieces c.list_cuts.new.cuts.items c.list_rows.new.rows.items)
-    ≡ length (parted (g.R.CodedRows.rows c.args.table.now) c.args.rows.now c.args.dim) = ap length (is_parted g c) in
+    ≡ length (parted (g.R.CodedRows.rows c.args.rows.now.table.now) c.args.rows.now.numbers.now c.args.dim) = ap length (is_parted g c) in
     let rows : length c.list_rows.new.rows.items ≡ length c.sort_by_code.new.sorter.keyed.items
     = ap length c.in_ok-list_rows.ensures ∙ length-map c.deref.result.now (λ k. k.row)
     ∙ ap length c.deref.ensures.value in

@@ -16,7 +16,7 @@ invariant_of-result c =
     c.in_ok-amounts.amounts.items _ (ap₂ (λ (s : Places) (v : Vec RowNo Global). named s v.items) table numbers)
     c.dims.ensures.value c.measures.ensures.value c.count.ensures.value c.in_ok-numbers.ensures.rows
     (c.in_ok-codes.ensures ∙ ap (λ is. flat_map (λ row. row.tuple) (named t is)) c.deref.ensures.value)
-    (c.in_ok-amounts.ensures ∙ ap (λ is. flat_map (λ row. row.amounts) (named t is)) c.deref-2.ensures.value)
+    (c.in_ok-amounts.ensures ∙ ap (λ is. flat_map (λ row. row.amounts) (named t is)) c.deref.ensures.value)
 
 pub returns-clause-rows : goal.returns-clause-rows
 returns-clause-rows c =
