@@ -3,3 +3,4 @@ pub mod FieldTexts
 pub mod Faults
 pub mod Columns
 pub mod Files
+pub mod FileRows

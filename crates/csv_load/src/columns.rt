@@ -21,17 +21,6 @@ pub struct Columns {
     pub has_op: bool,
 }
 
-/// The field of a record in a needed column, counted from 0 in the schema's order.
-pub fn needed_field<'a>(columns: &Columns, row: &'a ByteRecord, column: usize) -> &'a [u8]
-    requires there { column < length columns.now.places.items }
-    requires within { slice_index_or columns.now.places.items column 0 < length
-        (fields_of row.now) }
-    ensures { result.now ≡ slice_index_or
-        (fields_at columns.now.places.items (fields_of row.now)) column [] }
-{
-    field(row, columns.places[column])
-}
-
 // The place of the only field that is this name.
 fn place_of(header: &ByteRecord, name: &str) -> Option<usize>
     ensures { result ≡ place_from 0 name.now (fields_of header.now) }

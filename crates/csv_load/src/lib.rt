@@ -6,6 +6,7 @@ mod changes;
 mod columns;
 mod files;
 mod reading;
+mod row;
 mod texts;
 
 pub use batch::RawBatch;

@@ -7,6 +7,7 @@ ghost use Rattle.cube_defs.specs.Rows.{Row};
 ghost use Rattle.cube_defs.specs.Text.{Text};
 ghost use Rattle.csv_load.specs.Batch.{Adds, change_with};
 ghost use Rattle.csv_load.specs.Columns.{AreColumns, fields_at};
+ghost use Rattle.csv_load.specs.FileRows.{needed_of};
 ghost use Rattle.cell_core.specs.Gives.{Gives};
 ghost use Rattle.csv_load.specs.Faults.{Amount, Utf8, fault_in};
 ghost use Rattle.csv_load.specs.Files.{Makes, amounts_of, change_in, change_with_id, changes_from, deletion_of, is_short, tuple_of};
@@ -14,8 +15,9 @@ ghost use Rattle.text_lines.specs.Records.{bytes_in, bytes_in_all};
 
 use crate::batch::RawBatch;
 use crate::changes::ChangeColumns;
-use crate::columns::{Columns, needed_field};
+use crate::columns::Columns;
 use crate::files::LoadRefused;
+use crate::row::FileRow;
 use crate::texts::FieldTexts;
 use aggregates::{read_amount, read_id};
 use csv::ByteRecord;
@@ -25,35 +27,23 @@ use std::alloc::AllocError;
 use text_lines::RecordReader;
 
 // Appends the texts of a record's dimensions, and says whether each is short enough.
-fn push_texts(
-    schema: &Schema,
-    columns: &Columns,
-    row: &ByteRecord,
-    number: u32,
-    texts: &mut FieldTexts,
-) -> Result<bool, LoadRefused>
-    requires columns { AreColumns schema.now columns.now }
-    requires width { length (fields_of row.now) ≡ columns.now.width }
-    requires room { bytes_in texts.old
-        + bytes_in (fields_at columns.now.places.items (fields_of row.now)) < 2 ^ 32 }
+fn push_texts(row: &FileRow, texts: &mut FieldTexts) -> Result<bool, LoadRefused>
+    requires { bytes_in texts.old + bytes_in (needed_of row.now) < 2 ^ 32 }
     ensures ok { OnOk result
-        (texts.new ≡ texts.old ++ tuple_of schema.now
-        (fields_at columns.now.places.items (fields_of row.now))) }
+        (texts.new ≡ texts.old ++ tuple_of row.now.schema.now (needed_of row.now)) }
     ensures utf8 { OnOk result
-        (list_all is_utf8 (tuple_of schema.now
-        (fields_at columns.now.places.items (fields_of row.now))) ≡ true) }
+        (list_all is_utf8 (tuple_of row.now.schema.now (needed_of row.now)) ≡ true) }
     ensures short { IfOk result
         (λ short. short ≡ list_all is_short
-        (tuple_of schema.now (fields_at columns.now.places.items (fields_of row.now)))) }
-    ensures err { IfErr result (λ e. IfSome (fault_in e) (λ fault. (fault ≡ Utf8 number)
-        × (list_all is_utf8 (tuple_of schema.now
-        (fields_at columns.now.places.items (fields_of row.now))) ≡ false))) }
+        (tuple_of row.now.schema.now (needed_of row.now))) }
+    ensures err { IfErr result (λ e. IfSome (fault_in e) (λ fault. (fault ≡ Utf8 row.now.number)
+        × (list_all is_utf8 (tuple_of row.now.schema.now (needed_of row.now)) ≡ false))) }
 {
     let mut are_short = true;
-    for dim in 0..schema.dims() {
-        let field = needed_field(columns, row, 1 + dim as usize);
+    for dim in 0..row.schema.dims() {
+        let field = row.needed(1 + dim as usize);
         let Ok(text) = str::from_utf8(field) else {
-            return Err(LoadRefused::Utf8(number));
+            return Err(LoadRefused::Utf8(row.number));
         };
         if text.len() > MAX_TEXT {
             are_short = false;
@@ -64,17 +54,15 @@ fn push_texts(
 }
 
 // Whether a record is a deletion, if its operation is valid.
-fn read_kind(schema: &Schema, columns: &Columns, row: &ByteRecord) -> Option<bool>
-    requires columns { AreColumns schema.now columns.now }
-    requires width { length (fields_of row.now) ≡ columns.now.width }
-    ensures { result ≡ deletion_of columns.now.has_op schema.now
-        (fields_at columns.now.places.items (fields_of row.now)) }
+fn read_kind(row: &FileRow) -> Option<bool>
+    ensures { result ≡ deletion_of row.now.columns.now.has_op row.now.schema.now
+        (needed_of row.now) }
 {
-    if !columns.has_op {
+    if !row.columns.has_op {
         return Some(false);
     }
-    let place = 1 + schema.dims() as usize + schema.measures() as usize;
-    match needed_field(columns, row, place) {
+    let place = 1 + row.schema.dims() as usize + row.schema.measures() as usize;
+    match row.needed(place) {
         b"-" => Some(true),
         b"+" => Some(false),
         _ => None,
@@ -82,28 +70,18 @@ fn read_kind(schema: &Schema, columns: &Columns, row: &ByteRecord) -> Option<boo
 }
 
 // Appends the amounts of a record.
-fn push_amounts(
-    schema: &Schema,
-    columns: &Columns,
-    row: &ByteRecord,
-    number: u32,
-    amounts: &mut Vec<i64>,
-) -> Result<(), LoadRefused>
-    requires columns { AreColumns schema.now columns.now }
-    requires width { length (fields_of row.now) ≡ columns.now.width }
+fn push_amounts(row: &FileRow, amounts: &mut Vec<i64>) -> Result<(), LoadRefused>
     ensures ok { OnOk result ((more : List ℤ)
-        × (amounts_of schema.now (fields_at columns.now.places.items (fields_of row.now))
-        ≡ Some more)
+        × (amounts_of row.now.schema.now (needed_of row.now) ≡ Some more)
         × (amounts.new.items ≡ amounts.old.items ++ more)) }
-    ensures err { IfErr result (λ e. IfSome (fault_in e) (λ fault. (fault ≡ Amount number)
-        × (amounts_of schema.now (fields_at columns.now.places.items (fields_of row.now))
-        ≡ None))) }
+    ensures err { IfErr result (λ e. IfSome (fault_in e) (λ fault. (fault ≡ Amount row.now.number)
+        × (amounts_of row.now.schema.now (needed_of row.now) ≡ None))) }
 {
-    let first = 1 + schema.dims() as usize;
-    for measure in 0..schema.measures() {
-        let field = needed_field(columns, row, first + measure as usize);
-        let Some(amount) = read_amount(field, schema.scale(measure)) else {
-            return Err(LoadRefused::Amount(number));
+    let first = 1 + row.schema.dims() as usize;
+    for measure in 0..row.schema.measures() {
+        let field = row.needed(first + measure as usize);
+        let Some(amount) = read_amount(field, row.schema.scale(measure)) else {
+            return Err(LoadRefused::Amount(row.number));
         };
         amounts.push(amount)?;
     }
@@ -130,34 +108,29 @@ struct Operation {
 
 // Appends the amounts of an insertion, if its texts are short enough, and zeros for a deletion.
 fn push_amounts_or_zeros(
-    schema: &Schema,
-    columns: &Columns,
-    row: &ByteRecord,
-    number: u32,
+    row: &FileRow,
     operation: Operation,
     amounts: &mut Vec<i64>,
 ) -> Result<(), LoadRefused>
-    requires columns { AreColumns schema.now columns.now }
-    requires width { length (fields_of row.now) ≡ columns.now.width }
-    requires short { operation.are_short ≡ list_all is_short
-        (tuple_of schema.now (fields_at columns.now.places.items (fields_of row.now))) }
-    ensures ok { OnOk result ((more : List ℤ) × (length more ≡ length schema.now.measures)
+    requires { operation.are_short ≡ list_all is_short
+        (tuple_of row.now.schema.now (needed_of row.now)) }
+    ensures ok { OnOk result ((more : List ℤ) × (length more ≡ length row.now.schema.now.measures)
         × (amounts.new.items ≡ amounts.old.items ++ more)
-        × Makes schema.now number (fields_at columns.now.places.items (fields_of row.now))
+        × Makes row.now.schema.now row.now.number (needed_of row.now)
         operation.deletes more) }
     ensures err { IfErr result (λ e. (id : ℕ) → IfSome (fault_in e)
-        (λ fault. change_with_id number (Some operation.deletes) (Some id)
-        (tuple_of schema.now (fields_at columns.now.places.items (fields_of row.now)))
-        (amounts_of schema.now (fields_at columns.now.places.items (fields_of row.now)))
+        (λ fault. change_with_id row.now.number (Some operation.deletes) (Some id)
+        (tuple_of row.now.schema.now (needed_of row.now))
+        (amounts_of row.now.schema.now (needed_of row.now))
         ≡ Err fault)) }
 {
     if operation.deletes {
-        push_zeros(schema.measures(), amounts)?;
+        push_zeros(row.schema.measures(), amounts)?;
         return Ok(());
     }
-    push_amounts(schema, columns, row, number, amounts)?;
+    push_amounts(row, amounts)?;
     if !operation.are_short {
-        return Err(LoadRefused::Value(number));
+        return Err(LoadRefused::Value(row.number));
     }
     Ok(())
 }
@@ -166,40 +139,45 @@ fn push_amounts_or_zeros(
 fn push_change(
     schema: &Schema,
     columns: &Columns,
-    row: &ByteRecord,
+    fields: &ByteRecord,
     number: u32,
     changes: &mut ChangeColumns,
 ) -> Result<(), LoadRefused>
     requires columns { AreColumns schema.now columns.now }
     requires room { bytes_in changes.old.texts
-        + bytes_in (fields_at columns.now.places.items (fields_of row.now)) < 2 ^ 32 }
+        + bytes_in (fields_at columns.now.places.items (fields_of fields.now)) < 2 ^ 32 }
     ensures ok { OnOk result ((deletes : Bool) × (added : Row Text)
         × (change_in columns.now.has_op schema.now columns.now.width columns.now.places.items number
-        (fields_of row.now) ≡ Ok (change_with deletes added))
+        (fields_of fields.now) ≡ Ok (change_with deletes added))
         × (length added.tuple ≡ length schema.now.dims)
         × (length added.amounts ≡ length schema.now.measures)
         × Adds deletes added changes.old changes.new) }
     ensures size { OnOk result (bytes_in changes.new.texts ≤ bytes_in changes.old.texts
-        + bytes_in (fields_at columns.now.places.items (fields_of row.now))) }
+        + bytes_in (fields_at columns.now.places.items (fields_of fields.now))) }
     ensures err { IfErr result
         (λ e. IfSome (fault_in e)
         (λ fault. change_in columns.now.has_op schema.now columns.now.width
         columns.now.places.items number
-        (fields_of row.now) ≡ Err fault)) }
+        (fields_of fields.now) ≡ Err fault)) }
 {
-    if row.len() != columns.width {
+    if fields.len() != columns.width {
         return Err(LoadRefused::Fields(number));
     }
-    let are_short = push_texts(schema, columns, row, number, &mut changes.texts)?;
-    let Some(deletes) = read_kind(schema, columns, row) else {
+    let row = FileRow {
+        schema,
+        columns,
+        fields,
+        number,
+    };
+    let are_short = push_texts(&row, &mut changes.texts)?;
+    let Some(deletes) = read_kind(&row) else {
         return Err(LoadRefused::Op(number));
     };
-    let Some(id) = read_id(needed_field(columns, row, 0)) else {
+    let Some(id) = read_id(row.needed(0)) else {
         return Err(LoadRefused::Id(number));
     };
     let operation = Operation { deletes, are_short };
-    let amounts = &mut changes.amounts;
-    push_amounts_or_zeros(schema, columns, row, number, operation, amounts)?;
+    push_amounts_or_zeros(&row, operation, &mut changes.amounts)?;
     changes.push_id(id, deletes)?;
     Ok(())
 }

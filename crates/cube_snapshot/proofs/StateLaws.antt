@@ -20,7 +20,7 @@ use Rattle.value_dict.specs.Recoded.{text_in}
 use Rattle.value_dict.specs.TextLists.{TextLists}
 use Rattle.value_dict.specs.Decoded.{AreCodes, RowsAreCodes, has_text, place_in}
 use Rattle.value_dict.proofs.CallerLemmas.{Fits, fits, any-within, rows-back}
-use Rattle.warehouse.specs.State.{IsState, IsConsistent, State, coded_rows, ids_of}
+use Rattle.warehouse.specs.State.{IsState, IsConsistent, State, ids_of}
 use Rattle.warehouse.specs.Stored.{IsStored, state_of}
 use Rattle.warehouse.proofs.CallerLemmas as decoding
 use Rattle.cube_snapshot.specs.Format.{IsBytes, whole}

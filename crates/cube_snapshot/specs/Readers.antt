@@ -8,7 +8,7 @@ use Rattle.cube_defs.specs.Rows.{Row}
 use Rattle.cube_defs.specs.Text.{Text}
 use Rattle.csv_load.specs.Batch.{IsValue}
 use Rattle.qc_schema.specs.Schema.{IsLayout, Layout}
-use Rattle.value_dict.specs.TextLists.{IsDictionary, TextLists, no_texts}
+use Rattle.value_dict.specs.TextLists.{IsDictionary, TextLists, list_at, no_texts}
 use Rattle.value_dict.specs.Decoded.{AreCodes, RowsAreCodes}
 use Rattle.cube_snapshot.specs.Parts as format
 use Rattle.cube_snapshot.specs.Snapshot.{Parts}
@@ -45,6 +45,21 @@ pub record MayBeRows (lists : List (List Text)) (max : ℕ) (rows : List (Row �
   pub known : RowsAreCodes lists rows
   pub ids : IsDistinct nat_eq (map (λ row. row.id) rows)
   pub few : length rows ≤ max
+
+-- a batch is open for a table, which has a dimension for each of the lists
+pub record MayTakeRows (lists : List (List Text)) (table : Places) : Type 0 where
+  pub opened : is_some table.was ≡ true
+  pub dims : length lists ≡ table.dims
+
+-- the same of a table without rows
+pub record MayTakeFirstRows (lists : List (List Text)) (table : Places) : Type 0 where
+  pub takes : MayTakeRows lists table
+  pub empty : rows_of table ≡ []
+
+-- a dimension of a dictionary has no texts
+pub record HasNoTexts (dict : TextLists) (dim : ℕ) : Type 0 where
+  pub within : dim < length dict.lists
+  pub empty : list_at dict dim ≡ []
 
 -- a row that may come after others
 pub record MayCome (lists : List (List Text)) (max : ℕ) (rows : List (Row ℕ)) (row : Row ℕ) : Type 0 where

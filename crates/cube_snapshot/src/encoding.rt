@@ -2,6 +2,7 @@
 ghost use Rattle.std.specs.Prelude.{Err, IfOk, length, ◌<◌, ◌≡◌, ◌≤◌};
 ghost use Rattle.cube_snapshot.specs.States.{spelling};
 
+use crate::contents::Contents;
 use crate::refused::EncodeRefused;
 use crate::sizes::snapshot_len;
 use crate::writing::put_all;
@@ -26,11 +27,14 @@ pub fn encode(alloc: Global, warehouse: &Warehouse) -> Result<Vec<u8>, EncodeRef
         → MAX_FILE < length (spelling warehouse.now.state) }
 {
     let schema = schema_text(alloc, warehouse.schema())?;
-    let dict = warehouse.dict();
-    let table = warehouse.table();
-    let len = snapshot_len(&schema, dict, table);
+    let contents = Contents {
+        schema: &schema,
+        dict: warehouse.dict(),
+        table: warehouse.table(),
+    };
+    let len = snapshot_len(&contents);
     if len > MAX_FILE as u64 {
         return Err(EncodeRefused::TooLong);
     }
-    Ok(put_all(alloc, len as usize, &schema, dict, table)?)
+    Ok(put_all(alloc, len as usize, &contents)?)
 }

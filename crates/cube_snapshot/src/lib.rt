@@ -1,6 +1,7 @@
 //! Snapshots: a state as bytes, and back. Each state has one encoding.
 #![tactic(auto)]
 
+mod contents;
 mod decoding;
 mod encoding;
 pub mod laws;

@@ -7,7 +7,7 @@ ghost use Rattle.cube_defs.specs.Rows.{Row};
 ghost use Rattle.value_dict.specs.Decoded.{AreCodes};
 ghost use Rattle.cube_snapshot.specs.Format.{get_times, number};
 ghost use Rattle.cube_snapshot.specs.Parts.{amount, row, rows};
-ghost use Rattle.cube_snapshot.specs.Readers.{Finds, IsNextRow, MayBeRows, MayCome, Reads, table_frame};
+ghost use Rattle.cube_snapshot.specs.Readers.{Finds, IsNextRow, MayBeRows, MayCome, MayTakeFirstRows, MayTakeRows, Reads, table_frame};
 
 use crate::reading::{amount_at, u32_at, u64_at};
 use crate::refused::PartRefused;
@@ -76,8 +76,7 @@ fn read_row<'a>(
     cell: &mut Cell,
     bytes: &'a [u8],
 ) -> Result<&'a [u8], PartRefused>
-    requires is_open { is_some table.old.was ≡ true }
-    requires lists { length dict.now.lists ≡ table.old.dims }
+    requires takes { MayTakeRows dict.now.lists table.old }
     requires cell_dims { length cell.old ≡ table.old.dims }
     ensures row { IfOk result
         (λ rest. IsNextRow dict.now.lists table.old table.new bytes.now rest.now) }
@@ -113,9 +112,7 @@ fn rows_at<'a>(
     count: u32,
     bytes: &'a [u8],
 ) -> Result<&'a [u8], PartRefused>
-    requires is_open { is_some table.old.was ≡ true }
-    requires empty { rows_of table.old ≡ [] }
-    requires lists { length dict.now.lists ≡ table.old.dims }
+    requires { MayTakeFirstRows dict.now.lists table.old }
     ensures reads { Reads (λ y. MayBeRows dict.now.lists table.old.max y.0)
         (λ rest. (rows_of table.new, rest.now)) result
         (get_times (row table.old.dims table.old.measures) count bytes.now) }
@@ -140,9 +137,7 @@ pub(crate) fn read_rows<'a>(
     dict: &Dict,
     bytes: &'a [u8],
 ) -> Result<&'a [u8], PartRefused>
-    requires is_open { is_some table.old.was ≡ true }
-    requires empty { rows_of table.old ≡ [] }
-    requires lists { length dict.now.lists ≡ table.old.dims }
+    requires { MayTakeFirstRows dict.now.lists table.old }
     ensures reads { Reads (λ y. MayBeRows dict.now.lists table.old.max y.0)
         (λ rest. (rows_of table.new, rest.now)) result
         ((rows table.old.dims table.old.measures).get bytes.now) }

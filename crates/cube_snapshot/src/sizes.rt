@@ -6,33 +6,31 @@ ghost use Rattle.cube_snapshot.specs.Parts.{rows, text, texts};
 ghost use Rattle.cube_snapshot.specs.Snapshot.{parts_format};
 ghost use Rattle.value_dict.specs.TextLists.{list_at};
 
+use crate::contents::Contents;
 use base_table::Table;
 use cube_defs::{MAX_CODES, MAX_DIMS, MAX_MEASURES, MAX_ROWS, MAX_TEXT};
-use value_dict::Dict;
 
 // The bytes of the texts of a dimension, each with its length before it, without their number.
-fn texts_len(dict: &Dict, dim: u8) -> usize
-    requires dim { dim < length dict.now.lists }
-    requires short { All (λ t. length t ≤ MAX_TEXT) (list_at dict.now dim) }
-    ensures value { result ≡ length (flat_map text.put (list_at dict.now dim)) }
+fn texts_len(contents: &Contents, dim: u8) -> usize
+    requires { dim < length contents.now.dict.now.lists }
+    ensures value { result ≡ length (flat_map text.put (list_at contents.now.dict.now dim)) }
     ensures small { result ≤ (1 + MAX_TEXT) * MAX_CODES }
 {
     let mut len = 0;
-    'texts: for code in 0..dict.len(dim) {
-        len += 1 + dict.text(dim, code).len();
+    'texts: for code in 0..contents.dict.len(dim) {
+        len += 1 + contents.dict.text(dim, code).len();
     }
     len
 }
 
 // The bytes of the texts of all dimensions.
-fn dict_len(dict: &Dict) -> usize
-    requires { All (All (λ t. length t ≤ MAX_TEXT)) dict.now.lists }
-    ensures value { result ≡ length (flat_map texts.put dict.now.lists) }
+fn dict_len(contents: &Contents) -> usize
+    ensures value { result ≡ length (flat_map texts.put contents.now.dict.now.lists) }
     ensures small { result ≤ MAX_DIMS * (4 + (1 + MAX_TEXT) * MAX_CODES) }
 {
     let mut len = 0;
-    'dims: for dim in 0..dict.dims() {
-        len += 4 + texts_len(dict, dim);
+    'dims: for dim in 0..contents.dict.dims() {
+        len += 4 + texts_len(contents, dim);
     }
     len
 }
@@ -48,11 +46,12 @@ fn rows_len(table: &Table) -> usize
 }
 
 /// The bytes of a whole snapshot.
-pub(crate) fn snapshot_len(schema: &Vec<u8>, dict: &Dict, table: &Table) -> u64
-    requires { All (All (λ t. length t ≤ MAX_TEXT)) dict.now.lists }
+pub(crate) fn snapshot_len(contents: &Contents) -> u64
     ensures { result ≡ length
-        (parts_format schema.now.items dict.now.lists table.now.dims table.now.measures
-        (rows_of table.now)) }
+        (parts_format contents.now.schema.now.items contents.now.dict.now.lists
+        contents.now.table.now.dims contents.now.table.now.measures
+        (rows_of contents.now.table.now)) }
 {
-    12 + schema.len() as u64 + dict_len(dict) as u64 + rows_len(table) as u64
+    let texts = dict_len(contents) as u64;
+    12 + contents.schema.len() as u64 + texts + rows_len(contents.table) as u64
 }

@@ -5,7 +5,7 @@ ghost use Rattle.cube_defs.specs.Text.{Text};
 ghost use Rattle.value_dict.specs.TextLists.{list_at, no_texts};
 ghost use Rattle.cube_snapshot.specs.Format.{get_times, repeated};
 ghost use Rattle.cube_snapshot.specs.Parts.{text, texts};
-ghost use Rattle.cube_snapshot.specs.Readers.{AreAllowed, Reads};
+ghost use Rattle.cube_snapshot.specs.Readers.{AreAllowed, HasNoTexts, Reads};
 
 use crate::reading::{text_at, u32_at};
 use crate::refused::PartRefused;
@@ -51,8 +51,7 @@ fn learn_texts<'a>(
     count: u32,
     bytes: &'a [u8],
 ) -> Result<&'a [u8], PartRefused>
-    requires dim { dim < length dict.old.lists }
-    requires empty { list_at dict.old dim ≡ [] }
+    requires { HasNoTexts dict.old dim }
     ensures reads { Reads (λ y. AreAllowed dict.old.max y.0)
         (λ rest. (list_at dict.new dim, rest.now)) result (get_times text count bytes.now) }
     ensures lists { OnOk result
@@ -77,8 +76,7 @@ fn learn_texts<'a>(
 
 // The texts of a dimension that has none, and the bytes after them.
 fn texts_at<'a>(dict: &mut Dict, dim: u8, bytes: &'a [u8]) -> Result<&'a [u8], PartRefused>
-    requires dim { dim < length dict.old.lists }
-    requires empty { list_at dict.old dim ≡ [] }
+    requires { HasNoTexts dict.old dim }
     ensures reads { Reads (λ y. AreAllowed dict.old.max y.0)
         (λ rest. (list_at dict.new dim, rest.now)) result (texts.get bytes.now) }
     ensures lists { OnOk result

@@ -9,10 +9,10 @@ ghost use Rattle.cube_snapshot.specs.Parts.{amount, row, rows, text, texts};
 ghost use Rattle.cube_snapshot.specs.Snapshot.{parts_format, mark_text};
 ghost use Rattle.value_dict.specs.TextLists.{list_at};
 
+use crate::contents::Contents;
 use base_table::{RowNo, Table};
-use cube_defs::{MAX_AMOUNT, MAX_FILE, MAX_TEXT, Memory};
+use cube_defs::{MAX_AMOUNT, MAX_TEXT, Memory};
 use std::alloc::Global;
-use value_dict::Dict;
 
 /// Appends a number of four bytes.
 pub(crate) fn put_u32(out: &mut Vec<u8>, value: u32) -> Result<(), Memory>
@@ -45,11 +45,12 @@ fn put_text(out: &mut Vec<u8>, value: &str) -> Result<(), Memory>
 }
 
 // Appends the texts of a dimension, with their number before them.
-fn put_texts(out: &mut Vec<u8>, dict: &Dict, dim: u8) -> Result<(), Memory>
-    requires dim { dim < length dict.now.lists }
-    requires short { All (λ t. length t ≤ MAX_TEXT) (list_at dict.now dim) }
-    ensures { OnOk result (out.new.items ≡ out.old.items ++ texts.put (list_at dict.now dim)) }
+fn put_texts(out: &mut Vec<u8>, contents: &Contents, dim: u8) -> Result<(), Memory>
+    requires { dim < length contents.now.dict.now.lists }
+    ensures { OnOk result (out.new.items
+        ≡ out.old.items ++ texts.put (list_at contents.now.dict.now dim)) }
 {
+    let dict = contents.dict;
     put_u32(out, dict.len(dim))?;
     'texts: for code in 0..dict.len(dim) {
         put_text(out, dict.text(dim, code))?;
@@ -58,12 +59,12 @@ fn put_texts(out: &mut Vec<u8>, dict: &Dict, dim: u8) -> Result<(), Memory>
 }
 
 /// Appends the texts of all dimensions.
-pub(crate) fn put_dict(out: &mut Vec<u8>, dict: &Dict) -> Result<(), Memory>
-    requires { All (All (λ t. length t ≤ MAX_TEXT)) dict.now.lists }
-    ensures { OnOk result (out.new.items ≡ out.old.items ++ flat_map texts.put dict.now.lists) }
+pub(crate) fn put_dict(out: &mut Vec<u8>, contents: &Contents) -> Result<(), Memory>
+    ensures { OnOk result (out.new.items
+        ≡ out.old.items ++ flat_map texts.put contents.now.dict.now.lists) }
 {
-    'dims: for dim in 0..dict.dims() {
-        put_texts(out, dict, dim)?;
+    'dims: for dim in 0..contents.dict.dims() {
+        put_texts(out, contents, dim)?;
     }
     Ok(())
 }
@@ -128,32 +129,25 @@ pub(crate) fn put_rows(out: &mut Vec<u8>, table: &Table) -> Result<(), Memory>
 }
 
 // Appends the mark and the text of the schema.
-fn put_schema(out: &mut Vec<u8>, schema: &Vec<u8>) -> Result<(), Memory>
-    requires { length schema.now.items ≤ MAX_FILE }
+fn put_schema(out: &mut Vec<u8>, contents: &Contents) -> Result<(), Memory>
     ensures { OnOk result (out.new.items ≡ (out.old.items ++ mark_text)
-        ++ ((number w32).put (length schema.now.items) ++ schema.now.items)) }
+        ++ ((number w32).put (length contents.now.schema.now.items)
+        ++ contents.now.schema.now.items)) }
 {
     out.extend_from_slice(b"QCUBESN1")?;
-    put_u32(out, schema.len() as u32)?;
-    out.extend_from_slice(schema)
+    put_u32(out, contents.schema.len() as u32)?;
+    out.extend_from_slice(contents.schema)
 }
 
 /// The parts one after another, in a buffer with room for so many bytes.
-pub(crate) fn put_all(
-    alloc: Global,
-    len: usize,
-    schema: &Vec<u8>,
-    dict: &Dict,
-    table: &Table,
-) -> Result<Vec<u8>, Memory>
-    requires schema { length schema.now.items ≤ MAX_FILE }
-    requires short { All (All (λ t. length t ≤ MAX_TEXT)) dict.now.lists }
-    ensures { IfOk result (λ out. out.items ≡ parts_format schema.now.items dict.now.lists
-        table.now.dims table.now.measures (rows_of table.now)) }
+pub(crate) fn put_all(alloc: Global, len: usize, contents: &Contents) -> Result<Vec<u8>, Memory>
+    ensures { IfOk result (λ out. out.items ≡ parts_format contents.now.schema.now.items
+        contents.now.dict.now.lists contents.now.table.now.dims contents.now.table.now.measures
+        (rows_of contents.now.table.now)) }
 {
     let mut out = Vec::with_capacity(alloc, len)?;
-    put_schema(&mut out, schema)?;
-    put_dict(&mut out, dict)?;
-    put_rows(&mut out, table)?;
+    put_schema(&mut out, contents)?;
+    put_dict(&mut out, contents)?;
+    put_rows(&mut out, contents.table)?;
     Ok(out)
 }

@@ -28,11 +28,9 @@ record-asks shape dims rest bytes rows same mark e =
     let here : rows ≡ records default_config rest = e ∙ ap (records default_config) same in
     rw (mark, here) (sym (asks-first (field_of shape) dims (fields_in rest)))
 
-pub rows-text : (rest bytes : List ℕ) (rows : List (List Text)) → IsUtf8 rest → bytes ≡ rest
-    → rows ≡ records default_config bytes → All (All IsUtf8) rows
-rows-text rest bytes rows text same e =
-    let here : rows ≡ records default_config rest = e ∙ ap (records default_config) same in
-    rw here (text-records rest text)
+pub rows-text : (text : List ℕ) (rows : List (List Text)) → IsUtf8 text → rows ≡ records default_config text
+    → All (All IsUtf8) rows
+rows-text text rows utf8 e = rw e (text-records text utf8)
 
 -- ---- a field is asked of each dimension, and a cell's field asks Any or one value
 

@@ -1,14 +1,14 @@
 // The name of a pin, and the query of its rows.
-ghost use Rattle.std.specs.Prelude.{length, ◌≡◌, ◌≤◌};
+ghost use Rattle.std.specs.Prelude.{◌≡◌};
 ghost use Rattle.cell_core.specs.Gives.{Gives};
 ghost use Rattle.query_script.specs.Commands.{asked_with, at_in, is_pin_name, pin_name_in};
 ghost use Rattle.query_script.specs.Faults.{line_fault_in};
 ghost use Rattle.query_script.specs.Questions.{Pin, Unpin, question_in};
 
-use crate::line::{Command, LineRefused, split_command};
+use crate::line::{Command, LineRefused};
+use crate::part::Part;
 use crate::query::read_query_line;
 use cell_core::Text;
-use cube_defs::MAX_FILE;
 use qc_schema::{Schema, is_good_name};
 use std::alloc::Global;
 
@@ -50,11 +50,10 @@ pub(crate) fn read_unpin(alloc: Global, rest: &str) -> Result<Command, LineRefus
 }
 
 /// Reads what follows the word `at`.
-pub(crate) fn read_at(alloc: Global, schema: &Schema, rest: &str) -> Result<Command, LineRefused>
-    requires { length rest.now ≤ MAX_FILE }
-    ensures { Gives line_fault_in question_in result (at_in schema.now rest.now) }
+pub(crate) fn read_at(alloc: Global, schema: &Schema, rest: &Part) -> Result<Command, LineRefused>
+    ensures { Gives line_fault_in question_in result (at_in schema.now rest.now.text.now) }
 {
-    let (name, line) = split_command(rest);
+    let (name, line) = rest.split();
     let name = read_pin_name(alloc, name)?;
-    Ok(Command::At(name, read_query_line(alloc, schema, line)?))
+    Ok(Command::At(name, read_query_line(alloc, schema, &line)?))
 }

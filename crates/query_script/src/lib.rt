@@ -5,6 +5,7 @@ mod at;
 mod coded;
 mod iceberg;
 mod line;
+mod part;
 mod plain;
 mod query;
 mod record;

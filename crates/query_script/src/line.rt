@@ -5,9 +5,10 @@ ghost use Rattle.query_script.specs.Commands.{IsQuestion, asked_with, command_in
 ghost use Rattle.cell_core.specs.Gives.{Gives};
 ghost use Rattle.query_script.specs.Faults.{line_fault_in};
 ghost use Rattle.query_script.specs.Questions.{Ask, question_in};
-ghost use Rattle.query_script.specs.Lines.{may_want_memory, names_more, names_query, rest_of, stats_line, word_of};
+ghost use Rattle.query_script.specs.Lines.{may_want_memory, names_more, names_query, stats_line};
 
 use crate::at::{read_at, read_pin, read_unpin};
+use crate::part::Part;
 use crate::query::{Query, read_query};
 use crate::widen::read_widen;
 use cell_core::Text;
@@ -61,18 +62,6 @@ impl From<AllocError> for LineRefused {
     }
 }
 
-/// The command word, and what follows the one space after it.
-pub(crate) fn split_command(line: &str) -> (&str, &str)
-    ensures word { result.0.now ≡ word_of line.now }
-    ensures rest { result.1.now ≡ rest_of line.now }
-    ensures shorter { length result.1.now ≤ length line.now }
-{
-    match line.split_once(' ') {
-        Some((word, rest)) => (word, rest),
-        None => (line, ""),
-    }
-}
-
 // The name of a file.
 fn read_name(alloc: Global, rest: &str) -> Result<Text, LineRefused>
     ensures { Gives line_fault_in (λ name. name) result (name_in rest.now) }
@@ -88,11 +77,10 @@ fn read_present_query(
     alloc: Global,
     schema: &Schema,
     word: &str,
-    rest: &str,
+    rest: &Part,
 ) -> Result<Command, LineRefused>
-    requires { length rest.now ≤ MAX_FILE }
     ensures gives { Gives line_fault_in question_in result
-        (asked_with Ask (query_named schema.now word.now rest.now)) }
+        (asked_with Ask (query_named schema.now word.now rest.now.text.now)) }
     ensures memory { IfErr result (λ e. e ≡ LineRefused.Memory → names_query word.now ≡ true) }
 {
     match read_query(alloc, schema, word, rest) {
@@ -113,20 +101,19 @@ fn read_command(
     alloc: Global,
     schema: &Schema,
     word: &str,
-    rest: &str,
+    rest: &Part,
 ) -> Result<Command, LineRefused>
-    requires { length rest.now ≤ MAX_FILE }
     ensures gives { Gives line_fault_in question_in result
-        (command_named schema.now word.now rest.now) }
+        (command_named schema.now word.now rest.now.text.now) }
     ensures memory { IfErr result (λ e. e ≡ LineRefused.Memory → names_more word.now ≡ true) }
 {
     match word {
-        "load" => read_name(alloc, rest).map(Command::Load),
-        "apply" => read_name(alloc, rest).map(Command::Apply),
-        "try" => read_name(alloc, rest).map(Command::Try),
-        "widen" => read_widen(alloc, schema, rest),
-        "pin" => read_pin(alloc, rest),
-        "unpin" => read_unpin(alloc, rest),
+        "load" => read_name(alloc, rest.text).map(Command::Load),
+        "apply" => read_name(alloc, rest.text).map(Command::Apply),
+        "try" => read_name(alloc, rest.text).map(Command::Try),
+        "widen" => read_widen(alloc, schema, rest.text),
+        "pin" => read_pin(alloc, rest.text),
+        "unpin" => read_unpin(alloc, rest.text),
         "at" => read_at(alloc, schema, rest),
         _ => read_present_query(alloc, schema, word, rest),
     }
@@ -164,8 +151,8 @@ pub fn read_line(alloc: Global, schema: &Schema, line: &[u8]) -> Result<Command,
             if is_stats(text) {
                 return Ok(Command::Ask(Query::Stats));
             }
-            let (word, rest) = split_command(text);
-            read_command(alloc, schema, word, rest)
+            let (word, rest) = Part { text }.split();
+            read_command(alloc, schema, word, &rest)
         }
         Err(_) => Err(LineRefused::Utf8),
     }

@@ -1,5 +1,5 @@
 // Queries, and the lines that ask them.
-ghost use Rattle.std.specs.Prelude.{IfErr, length, true, ◌≡◌, ◌≤◌};
+ghost use Rattle.std.specs.Prelude.{IfErr, true, ◌≡◌};
 ghost use Rattle.cell_core.specs.Gives.{Gives};
 ghost use Rattle.query_script.specs.Commands.{query_in_line, query_named};
 ghost use Rattle.query_script.specs.Faults.{line_fault_in};
@@ -7,12 +7,12 @@ ghost use Rattle.query_script.specs.Lines.{names_query};
 ghost use Rattle.query_script.specs.Queries.{query_in};
 
 use crate::iceberg::read_iceberg;
-use crate::line::{LineRefused, is_stats, split_command};
+use crate::line::{LineRefused, is_stats};
+use crate::part::Part;
 use crate::record::{Shape, read_fields};
 use crate::rollup::read_rollup;
 use aggregates::{AggKind, Fraction};
 use cell_core::Fields;
-use cube_defs::MAX_FILE;
 use iceberg_query::Bound;
 use qc_schema::Schema;
 use std::alloc::Global;
@@ -45,17 +45,17 @@ pub(crate) fn read_query(
     alloc: Global,
     schema: &Schema,
     word: &str,
-    rest: &str,
+    rest: &Part,
 ) -> Result<Query, LineRefused>
-    requires { length rest.now ≤ MAX_FILE }
-    ensures gives { Gives line_fault_in query_in result (query_named schema.now word.now rest.now) }
+    ensures gives { Gives line_fault_in query_in result
+        (query_named schema.now word.now rest.now.text.now) }
     ensures memory { IfErr result (λ e. e ≡ LineRefused.Memory → names_query word.now ≡ true) }
 {
     match word {
         "point" => read_fields(alloc, Shape::Cell, schema, rest).map(Query::Point),
         "range" => read_fields(alloc, Shape::Box, schema, rest).map(Query::Range),
         "bounds" => read_fields(alloc, Shape::Cell, schema, rest).map(Query::Bounds),
-        "iceberg" => read_iceberg(schema, rest),
+        "iceberg" => read_iceberg(schema, rest.text),
         "parents" => read_fields(alloc, Shape::Cell, schema, rest).map(Query::Parents),
         "children" => read_fields(alloc, Shape::Cell, schema, rest).map(Query::Children),
         "rollup" => read_rollup(alloc, schema, rest),
@@ -67,14 +67,13 @@ pub(crate) fn read_query(
 pub(crate) fn read_query_line(
     alloc: Global,
     schema: &Schema,
-    line: &str,
+    line: &Part,
 ) -> Result<Query, LineRefused>
-    requires { length line.now ≤ MAX_FILE }
-    ensures { Gives line_fault_in query_in result (query_in_line schema.now line.now) }
+    ensures { Gives line_fault_in query_in result (query_in_line schema.now line.now.text.now) }
 {
-    if is_stats(line) {
+    if is_stats(line.text) {
         return Ok(Query::Stats);
     }
-    let (word, rest) = split_command(line);
-    read_query(alloc, schema, word, rest)
+    let (word, rest) = line.split();
+    read_query(alloc, schema, word, &rest)
 }

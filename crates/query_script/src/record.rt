@@ -12,6 +12,7 @@ ghost use Rattle.std.specs.List.{flat_map};
 ghost use Rattle.text_lines.specs.Records.{bytes_in, bytes_in_all};
 
 use crate::line::LineRefused;
+use crate::part::Part;
 use crate::plain::read_plain;
 use crate::values::read_several;
 use cell_core::{Field, Fields, Memory, Text};
@@ -41,41 +42,40 @@ pub fn named_value(field: &str) -> &str
 }
 
 // What a field asks, if it is allowed.
-fn read_field(alloc: Global, shape: Shape, field: &str) -> Result<Option<Field>, Memory>
-    requires { length field.now ≤ MAX_FILE }
-    ensures { IfOk result (λ asked. asked ≡ field_of shape field.now) }
+fn read_field(alloc: Global, shape: Shape, field: &Part) -> Result<Option<Field>, Memory>
+    ensures { IfOk result (λ asked. asked ≡ field_of shape field.now.text.now) }
 {
-    match field.as_bytes() {
+    match field.text.as_bytes() {
         b"*" => Ok(Some(Field::Any)),
         b"?" | [b'|' | b'~', ..] => match shape {
             Shape::Cell => Ok(None),
             Shape::Box => read_several(alloc, field),
         },
-        _ => Ok(Some(Field::One(Text::new(alloc, named_value(field))?))),
+        _ => Ok(Some(Field::One(Text::new(alloc, named_value(field.text))?))),
     }
 }
 
 /// Appends what a field asks.
-pub fn push_field(
+pub(crate) fn push_field(
     alloc: Global,
     shape: Shape,
     dims: u8,
-    text: &str,
+    field: &Part,
     fields: &mut Fields,
 ) -> Result<(), LineRefused>
-    requires few { length fields.old ≤ dims }
-    requires size { length text.now ≤ MAX_FILE }
+    requires { length fields.old ≤ dims }
     ensures ok { OnOk result ((more : List Text) → asked_after (field_of shape) dims fields.new more
-        ≡ asked_after (field_of shape) dims fields.old (text.now ∷ more)) }
+        ≡ asked_after (field_of shape) dims fields.old (field.now.text.now ∷ more)) }
     ensures few { OnOk result (length fields.new ≤ dims) }
     ensures err { IfErr result (λ e. (more : List Text) → IfSome (line_fault_in e)
-        (λ fault. asked_after (field_of shape) dims fields.old (text.now ∷ more) ≡ Err fault)) }
+        (λ fault. asked_after (field_of shape) dims fields.old (field.now.text.now ∷ more)
+        ≡ Err fault)) }
 {
     let place = fields.len() + 1;
     if place > u32::from(dims) {
         return Err(LineRefused::Field(place));
     }
-    let Some(asked) = read_field(alloc, shape, text)? else {
+    let Some(asked) = read_field(alloc, shape, field)? else {
         return Err(LineRefused::Field(place));
     };
     fields.push(asked)?;
@@ -102,7 +102,7 @@ fn push_fields(
 {
     'fields: for at in 0..row.len() {
         let text = str::from_utf8(field(row, at)).unwrap();
-        push_field(alloc, shape, dims, text, fields)?;
+        push_field(alloc, shape, dims, &Part { text }, fields)?;
     }
     Ok(())
 }
@@ -149,12 +149,12 @@ fn push_records(
 // Reads the fields of all records of a text. Not inlined: a reader of records has tables of 16 KiB,
 // which a function that makes one clears when it is entered, and hardly a line has quotes.
 #[inline(never)]
-fn read_records(alloc: Global, shape: Shape, dims: u8, rest: &str) -> Result<Fields, LineRefused>
-    requires size { length rest.now ≤ MAX_FILE }
-    requires unmarked { begins_with_mark rest.now ≡ false }
-    ensures { Gives line_fault_in (λ fields. fields) result (record_in shape dims rest.now) }
+fn read_records(alloc: Global, shape: Shape, dims: u8, rest: &Part) -> Result<Fields, LineRefused>
+    requires { begins_with_mark rest.now.text.now ≡ false }
+    ensures { Gives line_fault_in (λ fields. fields) result
+        (record_in shape dims rest.now.text.now) }
 {
-    let mut rows = RecordReader::new(alloc, rest.as_bytes());
+    let mut rows = RecordReader::new(alloc, rest.text.as_bytes());
     let mut row = ByteRecord::new(alloc);
     let mut fields = Fields::new(alloc);
     let pushed = push_records(alloc, shape, dims, &mut rows, &mut row, &mut fields);
@@ -167,21 +167,20 @@ fn read_records(alloc: Global, shape: Shape, dims: u8, rest: &str) -> Result<Fie
 }
 
 /// Reads what follows the word of a command that asks for a cell or a box of cells.
-pub fn read_fields(
+pub(crate) fn read_fields(
     alloc: Global,
     shape: Shape,
     schema: &Schema,
-    rest: &str,
+    rest: &Part,
 ) -> Result<Fields, LineRefused>
-    requires { length rest.now ≤ MAX_FILE }
     ensures { Gives line_fault_in (λ fields. fields) result
-        (record_in shape (length schema.now.dims) rest.now) }
+        (record_in shape (length schema.now.dims) rest.now.text.now) }
 {
-    if has_byte_order_mark(rest.as_bytes()) {
+    if has_byte_order_mark(rest.text.as_bytes()) {
         return Err(LineRefused::Field(1));
     }
     let dims = schema.dims();
-    if is_plain(rest) {
+    if is_plain(rest.text) {
         return read_plain(alloc, shape, dims, rest);
     }
     read_records(alloc, shape, dims, rest)

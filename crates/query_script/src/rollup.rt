@@ -1,6 +1,6 @@
 // The words of a roll-up.
 ghost use Rattle.std.specs.Option.{option_map};
-ghost use Rattle.std.specs.Prelude.{IfSome, length, ◌<◌, ◌≡◌, ◌≤◌};
+ghost use Rattle.std.specs.Prelude.{IfSome, length, ◌<◌, ◌≡◌};
 ghost use Rattle.cell_core.specs.Gives.{Gives};
 ghost use Rattle.aggregates.specs.Views.{kind_in};
 ghost use Rattle.iceberg_query.specs.Asked.{bound_in};
@@ -12,11 +12,11 @@ ghost use Rattle.query_script.specs.Makes.{make_of};
 ghost use Rattle.query_script.specs.Rollups.{IsLow, after_words, bound_at, rollup_in, value_at, with_measure};
 
 use crate::iceberg::{MeasureKind, named_bound};
-use crate::line::{LineRefused, split_command};
+use crate::line::LineRefused;
+use crate::part::Part;
 use crate::query::Query;
 use crate::record::{Shape, read_fields};
 use aggregates::{AggKind, read_fraction};
-use cube_defs::MAX_FILE;
 use iceberg_query::Bound;
 use qc_schema::Schema;
 use std::alloc::Global;
@@ -43,20 +43,19 @@ fn read_value(
     kind: AggKind,
     bound: Bound,
     place: u32,
-    words: &str,
+    words: &Part,
 ) -> Result<Query, LineRefused>
-    requires few { place < 10 }
-    requires size { length words.now ≤ MAX_FILE }
+    requires { place < 10 }
     ensures { Gives line_fault_in query_in result
-        (value_at (length schema.now.dims) (kind_in kind) (bound_in bound) place (word_of words.now)
-        (rest_of words.now)) }
+        (value_at (length schema.now.dims) (kind_in kind) (bound_in bound) place
+        (word_of words.now.text.now) (rest_of words.now.text.now)) }
 {
     let _dims = schema.dims();
-    let (word, rest) = split_command(words);
+    let (word, rest) = words.split();
     if word.is_empty() {
         return Err(LineRefused::Field(place));
     }
-    let fields = match read_fields(alloc, Shape::Cell, schema, rest) {
+    let fields = match read_fields(alloc, Shape::Cell, schema, &rest) {
         Ok(fields) => fields,
         Err(cause) => return Err(shift_field(cause, place)),
     };
@@ -72,16 +71,15 @@ fn read_bound(
     schema: &Schema,
     kind: AggKind,
     place: u32,
-    words: &str,
+    words: &Part,
 ) -> Result<Query, LineRefused>
-    requires few { place < 9 }
-    requires size { length words.now ≤ MAX_FILE }
+    requires { place < 9 }
     ensures { Gives line_fault_in query_in result
-        (bound_at (length schema.now.dims) (kind_in kind) place words.now) }
+        (bound_at (length schema.now.dims) (kind_in kind) place words.now.text.now) }
 {
-    let (word, rest) = split_command(words);
+    let (word, rest) = words.split();
     match named_bound(word.as_bytes()) {
-        Some(bound) => read_value(alloc, schema, kind, bound, place + 1, rest),
+        Some(bound) => read_value(alloc, schema, kind, bound, place + 1, &rest),
         None => Err(LineRefused::Field(place)),
     }
 }
@@ -91,31 +89,29 @@ fn read_measured(
     alloc: Global,
     schema: &Schema,
     aggregate: MeasureKind,
-    words: &str,
+    words: &Part,
 ) -> Result<Query, LineRefused>
-    requires { length words.now ≤ MAX_FILE }
     ensures { Gives line_fault_in query_in result
-        (with_measure (length schema.now.dims) (make_of aggregate) (rest_of words.now)
-        (measure_from schema.now.measures 0 (word_of words.now))) }
+        (with_measure (length schema.now.dims) (make_of aggregate) (rest_of words.now.text.now)
+        (measure_from schema.now.measures 0 (word_of words.now.text.now))) }
 {
-    let (name, behind) = split_command(words);
+    let (name, behind) = words.split();
     match schema.measure_named(name.as_bytes()) {
-        Some(measure) => read_bound(alloc, schema, aggregate.of(measure), 3, behind),
+        Some(measure) => read_bound(alloc, schema, aggregate.of(measure), 3, &behind),
         None => Err(LineRefused::Field(2)),
     }
 }
 
 /// Reads what follows the word `rollup`.
-pub(crate) fn read_rollup(alloc: Global, schema: &Schema, rest: &str) -> Result<Query, LineRefused>
-    requires { length rest.now ≤ MAX_FILE }
-    ensures { Gives line_fault_in query_in result (rollup_in schema.now rest.now) }
+pub(crate) fn read_rollup(alloc: Global, schema: &Schema, rest: &Part) -> Result<Query, LineRefused>
+    ensures { Gives line_fault_in query_in result (rollup_in schema.now rest.now.text.now) }
 {
-    let (word, behind) = split_command(rest);
+    let (word, behind) = rest.split();
     if word == "count" {
-        return read_bound(alloc, schema, AggKind::Count, 2, behind);
+        return read_bound(alloc, schema, AggKind::Count, 2, &behind);
     }
     match MeasureKind::named(word.as_bytes()) {
-        Some(aggregate) => read_measured(alloc, schema, aggregate, behind),
+        Some(aggregate) => read_measured(alloc, schema, aggregate, &behind),
         None => Err(LineRefused::Field(1)),
     }
 }

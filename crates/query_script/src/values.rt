@@ -3,23 +3,22 @@ ghost use Rattle.std.specs.Prelude.{◌≡◌, ◌≤◌, ◌<◌, ◌+◌, ◌+
 ghost use Rattle.text_lines.specs.Cuts.{cut_at};
 ghost use Rattle.query_script.specs.Fields.{between_of, several_of};
 
+use crate::part::Part;
 use cell_core::{Field, Memory, Text, Texts};
-use cube_defs::MAX_FILE;
 use std::alloc::Global;
 
 // The texts with `|` between them.
-fn read_list(alloc: Global, text: &str) -> Result<Texts, Memory>
-    requires { length text.now ≤ MAX_FILE }
-    ensures { IfOk result (λ list. list ≡ cut_at 124 text.now) }
+fn read_list(alloc: Global, list: &Part) -> Result<Texts, Memory>
+    ensures { IfOk result (λ texts. texts ≡ cut_at 124 list.now.text.now) }
 {
-    let mut list = Texts::new(alloc);
-    let mut left = text;
+    let mut texts = Texts::new(alloc);
+    let mut left = list.text;
     'pieces: while let Some((piece, behind)) = left.split_once('|') {
-        list.push(Text::new(alloc, piece)?)?;
+        texts.push(Text::new(alloc, piece)?)?;
         left = behind;
     }
-    list.push(Text::new(alloc, left)?)?;
-    Ok(list)
+    texts.push(Text::new(alloc, left)?)?;
+    Ok(texts)
 }
 
 // The values between two texts with one `~` between them.
@@ -36,14 +35,13 @@ fn read_between(alloc: Global, ends: &str) -> Result<Option<Field>, Memory>
 }
 
 /// What a field asks that is `?`, or begins with `|` or `~`, if it is allowed.
-pub fn read_several(alloc: Global, field: &str) -> Result<Option<Field>, Memory>
-    requires { length field.now ≤ MAX_FILE }
-    ensures { IfOk result (λ asked. asked ≡ several_of field.now) }
+pub(crate) fn read_several(alloc: Global, field: &Part) -> Result<Option<Field>, Memory>
+    ensures { IfOk result (λ asked. asked ≡ several_of field.now.text.now) }
 {
-    if let Some(list) = field.strip_prefix('|') {
-        return Ok(Some(Field::Among(read_list(alloc, list)?)));
+    if let Some(text) = field.text.strip_prefix('|') {
+        return Ok(Some(Field::Among(read_list(alloc, &Part { text })?)));
     }
-    match field.strip_prefix('~') {
+    match field.text.strip_prefix('~') {
         Some(ends) => read_between(alloc, ends),
         None => Ok(Some(Field::All)),
     }

@@ -6,7 +6,8 @@ ghost use Rattle.query_script.specs.Lines.{rest_of, word_of};
 ghost use Rattle.query_script.specs.Questions.{question_in};
 ghost use Rattle.query_script.specs.Widens.{has_value, widen_in};
 
-use crate::line::{Command, LineRefused, split_command};
+use crate::line::{Command, LineRefused};
+use crate::part::split_command;
 use cell_core::Text;
 use cube_defs::MAX_TEXT;
 use qc_schema::Schema;

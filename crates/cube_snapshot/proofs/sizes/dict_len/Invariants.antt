@@ -6,6 +6,6 @@ use Rattle.cube_snapshot.proofs.sizes.dict_len.Given as goal
 
 abbrev pub invariant-dims : goal.invariant-dims
 invariant-dims l = record {
-  value : l.len ≡ length (flat_map texts.put (take l.dim l.dict.lists));
+  value : l.len ≡ length (flat_map texts.put (take l.dim l.contents.dict.now.lists));
   small : l.len ≤ l.dim * (4 + (1 + MAX_TEXT) * MAX_CODES);
 }

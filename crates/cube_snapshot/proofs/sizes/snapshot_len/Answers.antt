@@ -5,10 +5,10 @@ use Rattle.cube_snapshot.proofs.sizes.snapshot_len.Goals as goal
 
 pub returns : goal.returns
 returns c =
-    let t = c.args.table.now in
+    let t = c.args.contents.now.table.now in
     omega (
       arith,
-      laid-len c.args.schema.now.items c.args.dict.now.lists t.dims t.measures (rows_of t),
-      c.dict_len.ensures.value,
+      laid-len c.args.contents.now.schema.now.items c.args.contents.now.dict.now.lists t.dims t.measures (rows_of t),
+      c.dict_len-texts.ensures.value,
       c.rows_len.ensures.value,
     )

@@ -8,12 +8,12 @@ use Rattle.cube_snapshot.proofs.sizes.texts_len.Goals as goal
 
 pub texts-preserved : goal.texts-preserved
 texts-preserved c =
-    let list = list_at c.args.dict.now c.args.dim in
+    let list = list_at c.args.contents.now.dict.now c.args.dim in
     let k = c.texts.code in
     let lt : k < length list = omega (arith, c.texts-test.true, c.len-code-end.ensures.value) in
     let is : get_or list k [] ≡ c.text.result.now
     = get_or_from_slice_get list k c.text.result.now [] c.text.ensures.value in
-    let short : length (get_or list k []) ≤ MAX_TEXT = c.requires.short k [] lt in
+    let short : length (get_or list k []) ≤ MAX_TEXT = c.args.contents.now.short c.args.dim [] c.requires k [] lt in
     let step : 1 + length c.text.result.now ≡ suc (length (get_or list k [])) = omega (arith, ap length is) in
     record {
       value = len_next text.put c.texts.len (c.texts.len + (1 + length c.text.result.now))

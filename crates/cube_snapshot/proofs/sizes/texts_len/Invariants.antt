@@ -7,6 +7,6 @@ use Rattle.cube_snapshot.proofs.sizes.texts_len.Given as goal
 
 abbrev pub invariant-texts : goal.invariant-texts
 invariant-texts l = record {
-  value : l.len ≡ length (flat_map text.put (take l.code (list_at l.dict l.dim)));
+  value : l.len ≡ length (flat_map text.put (take l.code (list_at l.contents.dict.now l.dim)));
   small : l.len ≤ (1 + MAX_TEXT) * l.code;
 }

@@ -36,7 +36,7 @@ texts-preserved c =
     let lt : dim < length d.lists
     = omega (
       arith,
-      c.requires.dim,
+      c.requires.within,
       ap (λ (n : TextLists). length n.lists) inv.lists,
       length-set first.lists dim list,
     ) in

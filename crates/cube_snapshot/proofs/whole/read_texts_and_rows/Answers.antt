@@ -21,8 +21,14 @@ returns-in-Err-clause-reads c =
     (subst (λ (n : ℕ). Refuses (λ y. All (AreAllowed n) y.0) e ((repeated texts (length d.lists)).get bytes)) are.values
     c.in-Err.ensures.reads))
 
-pub read_rows-requires-clause-lists : goal.read_rows-requires-clause-lists
-read_rows-requires-clause-lists c = c.in-Ok.ensures.dims ∙ c.requires.are.lists ∙ sym c.requires.are.dims
+pub read_rows-requires : goal.read_rows-requires
+read_rows-requires c = record {
+  takes = record {
+    opened = c.requires.opened;
+    dims = c.in-Ok.ensures.dims ∙ c.requires.are.lists ∙ sym c.requires.are.dims;
+  };
+  empty = c.requires.no_rows;
+}
 
 pub returns-in-Err-read_rows-clause-reads : goal.returns-in-Err-read_rows-clause-reads
 returns-in-Err-read_rows-clause-reads c =

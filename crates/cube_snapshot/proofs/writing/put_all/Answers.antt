@@ -9,10 +9,10 @@ use Rattle.cube_snapshot.proofs.writing.put_all.Goals as goal
 
 pub returns : goal.returns
 returns c =
-    let schema = c.args.schema.now.items in
-    let t = c.args.table.now in
+    let schema = c.args.contents.now.schema.now.items in
+    let t = c.args.contents.now.table.now in
     let front = (number w32).put (length schema) ++ schema in
-    let lists = (repeated texts t.dims).put c.args.dict.now.lists in
+    let lists = (repeated texts t.dims).put c.args.contents.now.dict.now.lists in
     let list = (rows t.dims t.measures).put (rows_of t) in
     c.in_ok-put_rows.ensures
     ∙ ap (λ (l : List ℕ). l ++ list) (c.in_ok-put_dict.ensures

@@ -7,5 +7,5 @@ use Rattle.cube_snapshot.specs.Parts.{text}
 use Rattle.cube_snapshot.proofs.writing.put_texts.Given as goal
 
 abbrev pub invariant-texts : goal.invariant-texts
-invariant-texts l = l.out.items ≡ (l.fn.out.items ++ (number w32).put (length (list_at l.dict l.dim)))
-    ++ flat_map text.put (take l.code (list_at l.dict l.dim))
+invariant-texts l = l.out.items ≡ (l.fn.out.items ++ (number w32).put (length (list_at l.contents.dict.now l.dim)))
+    ++ flat_map text.put (take l.code (list_at l.contents.dict.now l.dim))

@@ -21,19 +21,19 @@ returns-else-is_stats-clause-gives c =
     let stats : bytes_eq c.args.line.now stats_line ≡ false
     = ap (λ text. bytes_eq text stats_line) (sym c.in-Ok.ensures.cases.0) ∙ sym c.is_stats.ensures
     ∙ c.if-is_stats.false in
-    let word : c.split_command.result.0.now ≡ word_of c.args.line.now = c.split_command.ensures.word
+    let word : c.split.result.0.now ≡ word_of c.args.line.now = c.split.ensures.word
     ∙ ap word_of c.in-Ok.ensures.cases.0 in
-    let rest : c.split_command.result.1.now ≡ rest_of c.args.line.now = c.split_command.ensures.rest
+    let rest : c.split.result.1.text.now ≡ rest_of c.args.line.now = c.split.ensures.rest
     ∙ ap rest_of c.in-Ok.ensures.cases.0 in
     let gives = subst (λ r. Gives line_fault_in question_in c.read_command.result
-    (command_named c.args.schema.now c.split_command.result.0.now r)) rest c.read_command.ensures.gives in
+    (command_named c.args.schema.now c.split.result.0.now r)) rest c.read_command.ensures.gives in
     rw (text-line c.args.schema.now c.args.line.now c.in-Ok.ensures.cases.1 stats)
     (subst (λ w. Gives line_fault_in question_in c.read_command.result
     (command_named c.args.schema.now w (rest_of c.args.line.now))) word gives)
 
 pub returns-else-is_stats-clause-memory : goal.returns-else-is_stats-clause-memory
 returns-else-is_stats-clause-memory c =
-    let word : c.split_command.result.0.now ≡ word_of c.args.line.now = c.split_command.ensures.word
+    let word : c.split.result.0.now ≡ word_of c.args.line.now = c.split.ensures.word
     ∙ ap word_of c.in-Ok.ensures.cases.0 in
     IfErr-weaker c.read_command.result _ _ (λ refused named is. wants-memory c.args.line.now c.in-Ok.ensures.cases.1
     (rw word at (named is))) c.read_command.ensures.memory

@@ -55,14 +55,3 @@ returns-clause-err c =
     = split-cut 44 c.pieces.left.now None c.in_default.ensures.cases (omega arith) in
     IfErr-weaker c.push_field-2.result _ _ (λ e fails more. rw (← (c.pieces.invariant.asked more), cut) (fails more))
     c.push_field-2.ensures.err
-
-pub push_field-requires-clause-size : goal.push_field-requires-clause-size
-push_field-requires-clause-size c =
-    let parts = split_parts 44 c.pieces.left.now (Some (c.in-Some.piece, c.in-Some.behind)) c.in-Some.ensures.cases
-    (omega arith) in
-    omega (
-      arith,
-      ap length parts.0,
-      length-append c.in-Some.piece.now (44 ∷ c.in-Some.behind.now),
-      c.pieces.invariant.size,
-    )

@@ -11,7 +11,7 @@ use Rattle.query_script.proofs.plain.push_pieces.Given as goal
 abbrev pub invariant-pieces : goal.invariant-pieces
 invariant-pieces l = record {
   asked : (more : List Text) → asked_after (field_of l.shape) l.dims l.fields (pieces l.left ++ more)
-      ≡ asked_after (field_of l.shape) l.dims l.initial.fields (pieces l.text ++ more);
+      ≡ asked_after (field_of l.shape) l.dims l.initial.fields (pieces l.part.text.now ++ more);
   few : length l.fields ≤ l.dims;
   size : length l.left ≤ MAX_FILE;
   text : shadow (Utf8 l.left);

@@ -25,9 +25,9 @@ returns-in_err-push_field-clause-err c =
     rw p.1 (λ more. rw (p.2, ← (c.fields.invariant.asked more), cut)
     (c.in_err-push_field.ensures.err (drop (c.fields.at + 1) all ++ more)))
 
-pub push_field-requires-clause-size : goal.push_field-requires-clause-size
-push_field-requires-clause-size c =
+pub invariant_of-push_field : goal.invariant_of-push_field
+invariant_of-push_field c =
     let all = fields_of c.args.row.now in
     let read = rw c.unwrap-text.ensures at c.from_utf8.ensures.cases in
     let text : c.unwrap-text.result.now ≡ get_or all c.fields.at [] = read.0 ∙ c.field.ensures in
-    omega (arith, ap length text, field-within all c.fields.at, c.requires.size)
+    record { short = omega (arith, ap length text, field-within all c.fields.at, c.requires.size) }

@@ -4,22 +4,21 @@ use Rattle.query_script.proofs.record.read_records.Goals as goal
 
 pub push_records-pushed-requires-clause-text : goal.push_records-pushed-requires-clause-text
 push_records-pushed-requires-clause-text c
-    = rows-text c.args.rest.now c.as_bytes.result.now c.new-rows.result c.utf8.rest c.as_bytes.ensures.value
-    c.new-rows.ensures.records
+    = rows-text c.as_bytes.result.now c.new-rows.result c.as_bytes.ensures.utf8 c.new-rows.ensures.records
 
 pub push_records-pushed-requires-clause-size : goal.push_records-pushed-requires-clause-size
 push_records-pushed-requires-clause-size c
-    = omega (arith, c.new-rows.ensures.size, ap length c.as_bytes.ensures.value, c.requires.size)
+    = omega (arith, c.new-rows.ensures.size, ap length c.as_bytes.ensures.value, c.args.rest.now.short)
 
 pub returns-in-Ok : goal.returns-in-Ok
 returns-in-Ok c =
     let so_far = rw (c.in-Ok.is, c.new-fields.ensures) at c.push_records-pushed.ensures.ok in
-    let whole = record-asks c.args.shape c.args.dims c.args.rest.now c.as_bytes.result.now c.new-rows.result
-    c.as_bytes.ensures.value c.requires.unmarked c.new-rows.ensures.records ∙ sym so_far in
+    let whole = record-asks c.args.shape c.args.dims c.args.rest.now.text.now c.as_bytes.result.now c.new-rows.result
+    c.as_bytes.ensures.value c.requires c.new-rows.ensures.records ∙ sym so_far in
     rw whole c.check_count.ensures
 
 pub returns-in-Err : goal.returns-in-Err
 returns-in-Err c =
-    let whole = record-asks c.args.shape c.args.dims c.args.rest.now c.as_bytes.result.now c.new-rows.result
-    c.as_bytes.ensures.value c.requires.unmarked c.new-rows.ensures.records in
+    let whole = record-asks c.args.shape c.args.dims c.args.rest.now.text.now c.as_bytes.result.now c.new-rows.result
+    c.as_bytes.ensures.value c.requires c.new-rows.ensures.records in
     rw whole (rw (c.in-Err.is, c.new-fields.ensures) at c.push_records-pushed.ensures.err)

@@ -14,12 +14,12 @@ pieces-preserved c =
     (omega arith) in
     record {
       cut = rw (c.in_ok-push.ensures.ok, c.in_ok-new.ensures)
-          (append_assoc c.pieces.list (c.in-Some.piece.now ∷ []) (cut_at 124 c.in-Some.behind.now)
-          ∙ ap (λ (more : List (List ℕ)). c.pieces.list ++ more) (sym cut) ∙ c.pieces.invariant.cut);
+          (append_assoc c.pieces.texts (c.in-Some.piece.now ∷ []) (cut_at 124 c.in-Some.behind.now)
+          ∙ ap (λ (more : List (List ℕ)). c.pieces.texts ++ more) (sym cut) ∙ c.pieces.invariant.cut);
       room = omega (
         arith,
         ap length c.in_ok-push.ensures.ok,
-        length_push c.pieces.list c.in_ok-new.field-0,
+        length_push c.pieces.texts c.in_ok-new.field-0,
         ap length parts.0,
         length-append c.in-Some.piece.now (124 ∷ c.in-Some.behind.now),
         c.pieces.invariant.room,
@@ -32,4 +32,4 @@ returns c =
     let cut : cut_at 124 c.pieces.left.now ≡ c.pieces.left.now ∷ []
     = split-cut 124 c.pieces.left.now None c.in_default.ensures.cases (omega arith) in
     rw (c.in_ok-push-2.ensures.ok, c.in_ok-new-2.ensures)
-    (ap (λ (more : List (List ℕ)). c.pieces.list ++ more) (sym cut) ∙ c.pieces.invariant.cut)
+    (ap (λ (more : List (List ℕ)). c.pieces.texts ++ more) (sym cut) ∙ c.pieces.invariant.cut)

@@ -6,8 +6,8 @@ use Rattle.query_script.proofs.values.read_list.Given as goal
 
 abbrev pub invariant-pieces : goal.invariant-pieces
 invariant-pieces l = record {
-  cut : l.list ++ cut_at 124 l.left ≡ cut_at 124 l.text;
-  room : length l.list + length l.left ≤ length l.text;
+  cut : l.texts ++ cut_at 124 l.left ≡ cut_at 124 l.list.text.now;
+  room : length l.texts + length l.left ≤ length l.list.text.now;
   text : shadow (Utf8 l.left);
 }
 

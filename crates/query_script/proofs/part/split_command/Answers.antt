@@ -1,7 +1,7 @@
 use Rattle.std.proofs.Common.{◌∷◌, Some, arith, ap, length}
 use Rattle.std.proofs.lemmas.List.{length-append}
 use Rattle.std.proofs.lemmas.Str.Pattern.{split_once_first, split_parts}
-use Rattle.query_script.proofs.line.split_command.Goals as goal
+use Rattle.query_script.proofs.part.split_command.Goals as goal
 
 pub returns-in-Some : goal.returns-in-Some
 returns-in-Some c =
