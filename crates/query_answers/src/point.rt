@@ -9,6 +9,7 @@ ghost use Rattle.query_script.specs.Commands.{command_in};
 ghost use Rattle.query_script.specs.Lines.{may_want_memory};
 ghost use Rattle.query_script.specs.Queries.{Point};
 ghost use Rattle.query_script.specs.Questions.{Ask};
+ghost use Rattle.range_query.specs.DecodedHits.{IsDecodableHit};
 ghost use Rattle.query_answers.specs.Queries.{AsksForCell, cell_of_fields, point_answer};
 ghost use Rattle.reply_text.specs.Replies.{none_text, point_text};
 ghost use Rattle.reply_text.specs.Words.{reply_bytes};
@@ -101,8 +102,9 @@ fn put_total(
     total: &Agg,
     reply: &mut Vec<u8>,
 ) -> Result<(), Memory>
-    requires texts { HasTexts warehouse.now.state.texts cell.now }
-    requires parts { length (agg_in total.now).parts ≡ length warehouse.now.state.schema.measures }
+    requires { IsDecodableHit warehouse.now.state.texts
+        (length warehouse.now.state.schema.measures)
+        (record { cell = cell.now; agg = agg_in total.now }) }
     ensures { OnOk result
         (reply.new.items ≡ point_text number (decoded_cell warehouse.now.state.texts cell.now)
         warehouse.now.state.schema.measures

@@ -6,22 +6,21 @@ ghost use Rattle.lower_bounds.specs.Classes.{hit_in};
 ghost use Rattle.reply_text.specs.Replies.{bounds_text, class_text, iceberg_text, lower_text};
 ghost use Rattle.value_dict.specs.Decoded.{HasTexts, IsDecodableClass, decoded_cell, decoded_class};
 
-use crate::cells::push_record_start;
+use crate::cells::{CodedCell, push_record_start};
 use crate::fields::push_end;
-use crate::totals::push_agg;
-use cell_core::{Cell, Cells, Memory};
+use crate::totals::{Total, push_agg};
+use cell_core::{Cells, Memory};
 use lower_bounds::ClassHit;
 use qc_schema::Schema;
 use std::alloc::Global;
 use value_dict::Dict;
 
 // The record of a lower bound.
-fn push_lower(out: &mut Vec<u8>, line: u32, dict: &Dict, cell: &Cell) -> Result<(), Memory>
-    requires { HasTexts dict.now.lists cell.now }
+fn push_lower(out: &mut Vec<u8>, line: u32, coded: &CodedCell<'_>) -> Result<(), Memory>
     ensures { OnOk result (out.new.items ≡ out.old.items
-        ++ lower_text line (decoded_cell dict.now.lists cell.now)) }
+        ++ lower_text line (decoded_cell coded.now.dict.now.lists coded.now.cell.now)) }
 {
-    push_record_start(out, b"lower", line, dict, cell)?;
+    push_record_start(out, b"lower", line, coded)?;
     out.push(b'\n')?;
     Ok(())
 }
@@ -33,7 +32,11 @@ fn push_lowers(out: &mut Vec<u8>, line: u32, dict: &Dict, cells: &Cells) -> Resu
         (map (decoded_cell dict.now.lists) cells.now)) }
 {
     'cells: for k in 0..cells.len() {
-        push_lower(out, line, dict, cells.get(k))?;
+        let lower = CodedCell {
+            dict,
+            cell: cells.get(k),
+        };
+        push_lower(out, line, &lower)?;
     }
     Ok(())
 }
@@ -50,8 +53,16 @@ fn push_class(
     ensures { OnOk result (out.new.items ≡ out.old.items ++ class_text line schema.now.measures
         (decoded_class dict.now.lists (hit_in class.now))) }
 {
-    push_record_start(out, b"class", line, dict, &class.upper)?;
-    push_agg(out, schema, &class.agg)?;
+    let upper = CodedCell {
+        dict,
+        cell: &class.upper,
+    };
+    push_record_start(out, b"class", line, &upper)?;
+    let total = Total {
+        schema,
+        agg: &class.agg,
+    };
+    push_agg(out, &total)?;
     out.push(b'\n')?;
     push_lowers(out, line, dict, &class.lowers)
 }

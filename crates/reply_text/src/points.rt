@@ -1,11 +1,12 @@
 // The reply to a point.
 ghost use Rattle.std.specs.Prelude.{IfOk, OnOk, length, ◌++◌, ◌≡◌};
 ghost use Rattle.aggregates.specs.Views.{agg_in};
+ghost use Rattle.range_query.specs.DecodedHits.{IsDecodableHit};
 ghost use Rattle.reply_text.specs.Replies.{point_text};
-ghost use Rattle.value_dict.specs.Decoded.{HasTexts, decoded_cell};
+ghost use Rattle.value_dict.specs.Decoded.{decoded_cell};
 
-use crate::cells::push_record_start;
-use crate::totals::push_agg;
+use crate::cells::{CodedCell, push_record_start};
+use crate::totals::{Total, push_agg};
 use aggregates::Agg;
 use cell_core::{Cell, Memory};
 use qc_schema::Schema;
@@ -24,14 +25,14 @@ pub fn push_point(
     cell: &Cell,
     total: &Agg,
 ) -> Result<(), Memory>
-    requires texts { HasTexts dict.now.lists cell.now }
-    requires parts { length (agg_in total.now).parts ≡ length schema.now.measures }
+    requires { IsDecodableHit dict.now.lists (length schema.now.measures)
+        (record { cell = cell.now; agg = agg_in total.now }) }
     ensures { OnOk result (out.new.items ≡ out.old.items
         ++ point_text line (decoded_cell dict.now.lists cell.now) schema.now.measures
         (agg_in total.now)) }
 {
-    push_record_start(out, b"point", line, dict, cell)?;
-    push_agg(out, schema, total)?;
+    push_record_start(out, b"point", line, &CodedCell { dict, cell })?;
+    push_agg(out, &Total { schema, agg: total })?;
     out.push(b'\n')?;
     Ok(())
 }
@@ -45,8 +46,8 @@ pub fn point_reply(
     cell: &Cell,
     total: &Agg,
 ) -> Result<Vec<u8>, Memory>
-    requires texts { HasTexts dict.now.lists cell.now }
-    requires parts { length (agg_in total.now).parts ≡ length schema.now.measures }
+    requires { IsDecodableHit dict.now.lists (length schema.now.measures)
+        (record { cell = cell.now; agg = agg_in total.now }) }
     ensures { IfOk result (λ reply. reply.items ≡ point_text line
         (decoded_cell dict.now.lists cell.now) schema.now.measures (agg_in total.now)) }
 {

@@ -4,9 +4,9 @@ ghost use Rattle.std.specs.Prelude.{IfOk, OnOk, length, ◌++◌, ◌≡◌};
 ghost use Rattle.range_query.specs.DecodedHits.{IsDecodableHit, hit_in, decoded_hit, decoded_hits};
 ghost use Rattle.reply_text.specs.Replies.{hit_text, range_text};
 
-use crate::cells::push_record_start;
+use crate::cells::{CodedCell, push_record_start};
 use crate::fields::push_end;
-use crate::totals::push_agg;
+use crate::totals::{Total, push_agg};
 use cell_core::Memory;
 use qc_schema::Schema;
 use range_query::Hit;
@@ -25,8 +25,16 @@ fn push_hit(
     ensures { OnOk result (out.new.items ≡ out.old.items ++ hit_text line schema.now.measures
         (decoded_hit dict.now.lists (hit_in hit.now))) }
 {
-    push_record_start(out, b"cell", line, dict, &hit.cell)?;
-    push_agg(out, schema, &hit.agg)?;
+    let cell = CodedCell {
+        dict,
+        cell: &hit.cell,
+    };
+    push_record_start(out, b"cell", line, &cell)?;
+    let total = Total {
+        schema,
+        agg: &hit.agg,
+    };
+    push_agg(out, &total)?;
     out.push(b'\n')?;
     Ok(())
 }

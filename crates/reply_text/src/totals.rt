@@ -59,25 +59,32 @@ fn measures_of(agg: &Agg) -> u8
     agg.parts[..usize::from(agg.measures)].len() as u8
 }
 
+/// The aggregate of some rows, and a schema that has its measures.
+#[derive(Drop)]
+pub struct Total<'a> {
+    pub schema: &'a Schema,
+    pub agg: &'a Agg,
+    pub ghost parts: { length (agg_in agg.now).parts ≡ length schema.now.measures },
+}
+
 // The four numbers of each measure.
-fn push_parts(out: &mut Vec<u8>, schema: &Schema, agg: &Agg) -> Result<(), Memory>
-    requires { length (agg_in agg.now).parts ≡ length schema.now.measures }
+fn push_parts(out: &mut Vec<u8>, total: &Total<'_>) -> Result<(), Memory>
     ensures { OnOk result (out.new.items ≡ out.old.items
-        ++ fields_text (parts_texts agg.now.count schema.now.measures (agg_in agg.now).parts)) }
+        ++ fields_text (parts_texts total.now.agg.now.count total.now.schema.now.measures
+        (agg_in total.now.agg.now).parts)) }
 {
-    let dims = schema.dims();
-    for measure in 0..measures_of(agg) {
-        push_part(out, agg, measure, schema.scale(measure))?;
+    let dims = total.schema.dims();
+    for measure in 0..measures_of(total.agg) {
+        push_part(out, total.agg, measure, total.schema.scale(measure))?;
     }
     Ok(())
 }
 
 /// Appends the aggregate of some rows: their count, and the four numbers of each measure.
-pub fn push_agg(out: &mut Vec<u8>, schema: &Schema, agg: &Agg) -> Result<(), Memory>
-    requires { length (agg_in agg.now).parts ≡ length schema.now.measures }
+pub fn push_agg(out: &mut Vec<u8>, total: &Total<'_>) -> Result<(), Memory>
     ensures { OnOk result (out.new.items ≡ out.old.items
-        ++ fields_text (agg_texts schema.now.measures (agg_in agg.now))) }
+        ++ fields_text (agg_texts total.now.schema.now.measures (agg_in total.now.agg.now))) }
 {
-    push_number(out, u64::from(agg.count))?;
-    push_parts(out, schema, agg)
+    push_number(out, u64::from(total.agg.count))?;
+    push_parts(out, total)
 }

@@ -5,21 +5,18 @@ use Rattle.query_answers.proofs.Pointed.{on-err, point-known, point-parts, point
 use Rattle.query_answers.proofs.point.answer_plain_point.Goals as goal
 use Rattle.tree_search.proofs.CallerLemmas.{total-at}
 
-pub put_total-requires-clause-texts : goal.put_total-requires-clause-texts
-put_total-requires-clause-texts g c =
-    let s = c.args.warehouse.now.state in
-    let p = rw (c.schema.ensures.value, c.dict-dict.ensures.texts) at c.in-Known.ensures.coded in
-    point-texts s c.dict-dict.ensures.valid.state c.args.line.now c.read_point_codes.new.cell p
-
-pub put_total-requires-clause-parts : goal.put_total-requires-clause-parts
-put_total-requires-clause-parts g c =
+pub put_total-requires : goal.put_total-requires
+put_total-requires g c =
     let s = c.args.warehouse.now.state in
     let p = rw (c.schema.ensures.value, c.dict-dict.ensures.texts) at c.in-Known.ensures.coded in
     let at = c.in-Some.ensures.value (source_of s)
     (rw (c.tree.ensures.width, c.tree.ensures.value) c.tree.ensures.valid.tree)
     ∙ total-at (source_of s) c.read_point_codes.new.cell in
-    point-parts s c.dict-dict.ensures.valid.state c.args.line.now c.read_point_codes.new.cell p
-    (Some c.in-Some.total) at
+    record {
+      texts = point-texts s c.dict-dict.ensures.valid.state c.args.line.now c.read_point_codes.new.cell p;
+      parts = point-parts s c.dict-dict.ensures.valid.state c.args.line.now c.read_point_codes.new.cell p
+          (Some c.in-Some.total) at;
+    }
 
 pub returns-in-Unknown-clause-answered : goal.returns-in-Unknown-clause-answered
 returns-in-Unknown-clause-answered g c =

@@ -6,14 +6,14 @@ use Rattle.reply_text.proofs.cells.push_entry.Goals as goal
 
 pub text-requires-clause-dim : goal.text-requires-clause-dim
 text-requires-clause-dim c
-    = omega (arith, told-long c.args.dict.now.lists c.args.cell.now c.requires.texts, c.requires.dim)
+    = omega (arith, told-long c.args.coded.now.dict.now.lists c.args.coded.now.cell.now c.args.coded.now.texts, c.requires)
 
 pub text-requires-clause-code : goal.text-requires-clause-code
 text-requires-clause-code c
-    = told-within c.args.dict.now.lists c.args.cell.now c.args.dim c.in-Is.code c.requires.texts c.in-Is.ensures.value
+    = told-within c.args.coded.now.dict.now.lists c.args.coded.now.cell.now c.args.dim c.in-Is.code c.args.coded.now.texts c.in-Is.ensures.value
 
 pub returns-in-Is : goal.returns-in-Is
 returns-in-Is c =
-    let same : text_of (list_at c.args.dict.now c.args.dim) c.in-Is.code ≡ c.text.result.now
-    = told-text (list_at c.args.dict.now c.args.dim) c.in-Is.code c.text.result.now c.text.ensures.value in
+    let same : text_of (list_at c.args.coded.now.dict.now c.args.dim) c.in-Is.code ≡ c.text.result.now
+    = told-text (list_at c.args.coded.now.dict.now c.args.dim) c.in-Is.code c.text.result.now c.text.ensures.value in
     rw (← c.in-Is.ensures.value, same) (rw c.as_bytes.ensures.value at c.push_value.ensures)

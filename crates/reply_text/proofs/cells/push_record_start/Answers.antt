@@ -8,4 +8,4 @@ returns c =
     let number = rw (c.from.ensures, c.in_ok-extend_from_slice.ensures.items) at c.in_ok-push_number.ensures in
     let cell = rw number at c.push_cell.ensures in
     rw (append_assoc (c.args.out.now.items ++ c.args.word.now) (44 ∷ decimal c.args.line)
-    (fields_text (map entry_text (decoded_cell c.args.dict.now.lists c.args.cell.now)))) at cell
+    (fields_text (map entry_text (decoded_cell c.args.coded.now.dict.now.lists c.args.coded.now.cell.now)))) at cell

@@ -10,4 +10,4 @@ returns c =
     let head = c.in_ok-push_record_start.ensures in
     rw head at c.in_ok-push.ensures.items
     ∙ record-end c.args.out.now.items (codes "lower") (decimal c.args.line)
-    (map entry_text (decoded_cell c.args.dict.now.lists c.args.cell.now))
+    (map entry_text (decoded_cell c.args.coded.now.dict.now.lists c.args.coded.now.cell.now))

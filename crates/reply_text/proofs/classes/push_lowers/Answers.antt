@@ -1,13 +1,9 @@
 use Rattle.std.proofs.Common.{◌∙◌, sym, ap, ◌++◌, ℕ, List, append_assoc, take, map}
 use Rattle.std.specs.List.{flat_map}
-use Rattle.value_dict.specs.Decoded.{HasTexts, decoded_cell}
+use Rattle.value_dict.specs.Decoded.{decoded_cell}
 use Rattle.reply_text.specs.Replies.{lower_text}
-use Rattle.reply_text.proofs.DecodedCells.{item-at, item-after}
+use Rattle.reply_text.proofs.DecodedCells.{item-after}
 use Rattle.reply_text.proofs.classes.push_lowers.Goals as goal
-
-pub push_lower-requires : goal.push_lower-requires
-push_lower-requires c =
-    item-at (HasTexts c.args.dict.now.lists) c.args.cells.now c.cells.k c.get.result.now c.requires c.get.ensures
 
 pub cells-preserved : goal.cells-preserved
 cells-preserved c =

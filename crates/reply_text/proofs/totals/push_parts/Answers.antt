@@ -13,8 +13,8 @@ use Rattle.reply_text.proofs.totals.push_parts.Goals as goal
 
 pub loop-measure-preserved : goal.loop-measure-preserved
 loop-measure-preserved c =
-    let agg = c.args.agg.now in
-    let measures = c.args.schema.now.measures in
+    let agg = c.args.total.now.agg.now in
+    let measures = c.args.total.now.schema.now.measures in
     let parts = (agg_in agg).parts in
     let k = c.loop-measure.measure in
     let out = c.args.out.now.items in
@@ -30,19 +30,19 @@ loop-measure-preserved c =
 
 pub push_part-requires-clause-scale : goal.push_part-requires-clause-scale
 push_part-requires-clause-scale c =
-    let measures = c.args.schema.now.measures in
+    let measures = c.args.total.now.schema.now.measures in
     let lt : c.loop-measure.measure < length measures
-    = omega (arith, c.requires, c.measures_of-measure-end.ensures.parts) in
+    = omega (arith, c.args.total.now.parts, c.measures_of-measure-end.ensures.parts) in
     rw c.scale.ensures (All-from_recursion (λ (m : Measure). m.scale ≤ MAX_SCALE) measures
     c.dims-dims.ensures.layout.scales c.loop-measure.measure no_measure lt)
 
 pub returns : goal.returns
 returns c =
-    let agg = c.args.agg.now in
-    let measures = c.args.schema.now.measures in
+    let agg = c.args.total.now.agg.now in
+    let measures = c.args.total.now.schema.now.measures in
     let parts = (agg_in agg).parts in
     let k = c.loop-measure.measure in
-    let end : length measures ≤ k = omega (arith, c.requires, c.measures_of-measure-end.ensures.parts) in
+    let end : length measures ≤ k = omega (arith, c.args.total.now.parts, c.measures_of-measure-end.ensures.parts) in
     let end2 : length parts ≤ k = omega (arith, c.measures_of-measure-end.ensures.parts) in
     c.loop-measure.invariant
     ∙ ap₂ (λ (ms : List Measure) (ps : List Part). c.args.out.now.items

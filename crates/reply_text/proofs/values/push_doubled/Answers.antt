@@ -1,4 +1,4 @@
-use Rattle.std.proofs.Common.{◌∙◌, ◌++◌, List, ap, arith, get_or, length, sym, take, ℕ}
+use Rattle.std.proofs.Common.{◌∙◌, ◌++◌, List, ap, arith, get_or, sym, take, ℕ}
 use Rattle.std.specs.List.{flat_map}
 use Rattle.std.proofs.lemmas.List.{flat_map_more, take_all, take_more}
 use Rattle.reply_text.specs.Replies.{doubled}

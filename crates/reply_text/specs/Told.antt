@@ -1,0 +1,12 @@
+-- A cell's codes have texts in one way at most.
+use Rattle.std.specs.Prelude.{ℕ, List, [], ◌∷◌, Some, None}
+use Rattle.std.specs.Coded.{×_prop, Unit-prop, le_prop}
+use Rattle.cube_defs.specs.Cell.{Cell}
+use Rattle.cube_defs.specs.Text.{Text}
+use Rattle.value_dict.specs.Decoded.{HasTexts}
+
+pub HasTexts-prop : (lists : List (List Text)) (cell : Cell ℕ) → IsProp (HasTexts lists cell)
+HasTexts-prop lists [] = Unit-prop
+HasTexts-prop [] (entry ∷ cell) = λ p q. absurd p
+HasTexts-prop (texts ∷ lists) (None ∷ cell) = HasTexts-prop lists cell
+HasTexts-prop (texts ∷ lists) (Some code ∷ cell) = ×_prop le_prop (HasTexts-prop lists cell)
