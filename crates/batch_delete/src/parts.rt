@@ -66,26 +66,6 @@ fn joined(rest: Option<Rest>, part: Rest) -> Rest
     }
 }
 
-// What the rows of a cell share, and their aggregate, if it covers any. The search for the cell
-// goes on from a node, after a dimension.
-fn part_of<L: Ledger>(
-    arena: &QcArena,
-    cell: &Cell,
-    dim: u8,
-    node: NodeNo,
-    steps: &mut Steps<L>,
-) -> Option<Rest>
-    ghost d: { Deletion }
-    requires { IsSearch d arena.now cell.now dim node.0 }
-    ensures rest { IsRest d.measures (rows_before d) cell.now result }
-    ensures steps { steps.new ≤ steps.old + (4 * length cell.now + 5) }
-{
-    match find_from(arena, cell, dim, node, steps) {
-        None => None,
-        Some(node) => rest_at(arena, cell, node, steps),
-    }
-}
-
 // What the rows of a cell share, and their aggregate. The node is that of the cell's closure.
 fn rest_at<L: Ledger>(
     arena: &QcArena,
@@ -108,31 +88,6 @@ fn rest_at<L: Ledger>(
     }
 }
 
-// The planned rest of a cell's rows. The search for the cell goes on from a node, after a
-// dimension.
-fn own_rest<L: Ledger>(
-    arena: &QcArena,
-    plan: &IndexMap<u32, NodePlan>,
-    cell: &Cell,
-    dim: u8,
-    node: NodeNo,
-    steps: &mut Steps<L>,
-) -> Option<Rest>
-    ghost d: { Deletion }
-    requires search { IsSearch d arena.now cell.now dim node.0 }
-    requires some { IsSome (closure_in (source_before d) cell.now) }
-    requires planned { (q : ℕ) (w : _) → closure_in (source_before d) cell.now ≡ Some w
-        → cell_at arena.now.now q ≡ Some w →
-        IsRest d.measures (rows_after d) w (planned_rest_in plan.now.entries q) }
-    ensures rest { IsRest d.measures (rows_after d) cell.now result }
-    ensures steps { steps.new ≤ steps.old + 2 * length cell.now }
-{
-    match find_from(arena, cell, dim, node, steps) {
-        None => None,
-        Some(node) => planned_rest(plan, node),
-    }
-}
-
 // The rest of those rows of a class that have the tuple's value in a dimension of Any. `front` is
 // the node of the class's prefix before that dimension.
 fn own_part<L: Ledger>(
@@ -149,18 +104,19 @@ fn own_part<L: Ledger>(
         → IsRest d.measures (rows_after d) (with_value class.now.cell dim v) result }
     ensures steps { steps.new ≤ steps.old + (2 * length class.now.cell + 1) }
 {
-    let row = class.row;
-    match row.tuple.get(dim) {
-        Entry::Any => None,
-        Entry::Is(code) => match row.arena.edge(front, dim, code, steps) {
-            None => None,
-            Some(target) => {
-                let mut more = class.cell.copy();
-                more.set(dim, Entry::Is(code));
-                own_rest(row.arena, plan, &more, dim, target, steps)
-            }
-        },
-    }
+    let arena = class.row.arena;
+    let Entry::Is(code) = class.row.tuple.get(dim) else {
+        return None;
+    };
+    let Some(target) = arena.edge(front, dim, code, steps) else {
+        return None;
+    };
+    let mut more = class.cell.copy();
+    more.set(dim, Entry::Is(code));
+    let Some(node) = find_from(arena, &more, dim, target, steps) else {
+        return None;
+    };
+    planned_rest(plan, node)
 }
 
 // The rest joined with the rows of a label. The label's value isn't the tuple's.
@@ -186,7 +142,10 @@ fn with_part<L: Ledger>(
     let (dim, code, target) = label;
     let mut more = cell.copy();
     more.set(dim, Entry::Is(code));
-    match part_of(arena, &more, dim, target, steps) {
+    let Some(node) = find_from(arena, &more, dim, target, steps) else {
+        return rest;
+    };
+    match rest_at(arena, &more, node, steps) {
         None => rest,
         Some(part) => Some(joined(rest, part)),
     }
