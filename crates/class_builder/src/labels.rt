@@ -1,5 +1,4 @@
 // Edges of nodes of prefixes, to nodes that are added or exist already.
-ghost use Rattle.cell_core.specs.Entry.{IsCode};
 ghost use Rattle.std.specs.Ordering.{nat_cmp};
 ghost use Rattle.std.specs.Prelude.{Err, IfSome, None, OnOk, Some, length, slice_index_or, suc, ◌+◌, ◌<◌, ◌≡◌, ◌≤◌};
 ghost use Rattle.cube_defs.specs.Cell.{cell_prefix};
@@ -33,7 +32,6 @@ pub(crate) fn add_prefix_node<L: Ledger>(
     path: &mut Path,
 ) -> Result<(), ArenaRefused>
     requires value { slice_index_or part.now.shared dim None ≡ Some edge.code }
-    requires small { IsCode edge.code }
     requires stands { StandsBefore part.now.table.now part.now.shared dim
         (prefix_acts edge.is_forced part.now.shared dim edge.code)
         builder.old.arena.now path.old builder.old.fronts.now }

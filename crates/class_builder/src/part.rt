@@ -1,4 +1,5 @@
 // Rows that the walk visits together.
+ghost use Rattle.cell_core.specs.Entry.{IsCode};
 ghost use Rattle.class_builder.specs.Walk.{IsGroup, IsPart};
 ghost use Rattle.std.proofs.Props.{props};
 
@@ -32,4 +33,5 @@ pub(crate) struct Group<'a> {
 pub(crate) struct ChildEdge {
     pub(crate) code: Code,
     pub(crate) is_forced: bool,
+    pub(crate) ghost small: { IsCode code },
 }

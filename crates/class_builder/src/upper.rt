@@ -30,27 +30,8 @@ fn entry_of(group: &Group<'_>, dim: u8) -> Entry
     }
 }
 
-/// Whether the group's rows share a value in the dimension. A single row isn't read: most groups
-/// have only one.
-fn is_shared(group: &Group<'_>, dim: u8) -> bool
-    requires { dim < group.now.table.now.dims }
-    ensures { result ≡ is_some (slice_index_or
-        (shared_by (named group.now.table.now group.now.rows.now)) dim None) }
-{
-    if group.rows.len() == 1 {
-        return true;
-    }
-    let rows = SomeRows {
-        table: group.table,
-        numbers: group.rows,
-    };
-    match shared_entry(&rows, dim) {
-        Entry::Is(_) => true,
-        Entry::Any => false,
-    }
-}
-
-/// Whether the group's rows share a value in the dimension, and `upper` has Any there.
+/// Whether the group's rows share a value in the dimension, and `upper` has Any there. A single row
+/// isn't read: most groups have only one.
 fn gains(group: &Group<'_>, dim: u8) -> bool
     requires { dim < group.now.table.now.dims }
     ensures same { result ≡ false →
@@ -61,8 +42,19 @@ fn gains(group: &Group<'_>, dim: u8) -> bool
         ≡ slice_index_or group.now.upper.now dim None → ⊥ }
 {
     match group.upper.get(dim) {
-        Entry::Is(_) => false,
-        Entry::Any => is_shared(group, dim),
+        Entry::Is(_) => return false,
+        Entry::Any => {}
+    }
+    if group.rows.len() == 1 {
+        return true;
+    }
+    let rows = SomeRows {
+        table: group.table,
+        numbers: group.rows,
+    };
+    match shared_entry(&rows, dim) {
+        Entry::Is(_) => true,
+        Entry::Any => false,
     }
 }
 

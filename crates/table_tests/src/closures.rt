@@ -48,7 +48,11 @@ fn are_parts(
         return Ok(false);
     }
     let nos = table.all(alloc)?;
-    let parts = part(alloc, table, &nos, dim)?;
+    let all = TableRows {
+        table,
+        numbers: &nos,
+    };
+    let parts = part(alloc, &all, dim)?;
     let pairs = pairs_of(alloc, &parts)?;
     Ok(pairs.as_slice() == want)
 }

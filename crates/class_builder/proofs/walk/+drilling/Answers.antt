@@ -412,8 +412,8 @@ pub drill_part-add_prefix_node-requires-clause-value : goal.drill_part-add_prefi
 drill_part-add_prefix_node-requires-clause-value g t c = ap (λ u. entry u c.args.group.now.dim) c.closure_of_part.ensures
     ∙ c.args.group.now.is.value
 
-pub drill_part-add_prefix_node-requires-clause-small : goal.drill_part-add_prefix_node-requires-clause-small
-drill_part-add_prefix_node-requires-clause-small g t c = c.args.group.now.is.small
+pub drill_part-invariant_of-edge : goal.drill_part-invariant_of-edge
+drill_part-invariant_of-edge g t c = record { small = c.args.group.now.is.small }
 
 pub drill-returns-clause-steps : goal.drill-returns-clause-steps
 drill-returns-clause-steps g t c =
