@@ -1,6 +1,7 @@
 //! Reads the lines of a script into commands.
 #![tactic(auto)]
 
+mod asked_fields;
 mod at;
 mod coded;
 mod iceberg;

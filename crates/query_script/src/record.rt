@@ -6,11 +6,12 @@ ghost use Rattle.query_script.specs.Commands.{record_in};
 ghost use Rattle.cell_core.specs.Gives.{Gives};
 ghost use Rattle.query_script.specs.Faults.{line_fault_in};
 ghost use Rattle.query_script.specs.Fields.{field_of, value_of};
-ghost use Rattle.query_script.specs.Progress.{asked_after};
+ghost use Rattle.query_script.specs.Progress.{asks};
 ghost use Rattle.text_lines.specs.Lines.{begins_with_mark};
 ghost use Rattle.std.specs.List.{flat_map};
 ghost use Rattle.text_lines.specs.Records.{bytes_in, bytes_in_all};
 
+use crate::asked_fields::AskedFields;
 use crate::line::LineRefused;
 use crate::part::Part;
 use crate::plain::read_plain;
@@ -58,62 +59,52 @@ fn read_field(alloc: Global, shape: Shape, field: &Part) -> Result<Option<Field>
 /// Appends what a field asks.
 pub(crate) fn push_field(
     alloc: Global,
-    shape: Shape,
-    dims: u8,
     field: &Part,
-    fields: &mut Fields,
+    so_far: &mut AskedFields,
 ) -> Result<(), LineRefused>
-    requires { length fields.old ≤ dims }
-    ensures ok { OnOk result ((more : List Text) → asked_after (field_of shape) dims fields.new more
-        ≡ asked_after (field_of shape) dims fields.old (field.now.text.now ∷ more)) }
-    ensures few { OnOk result (length fields.new ≤ dims) }
+    ensures ok { OnOk result ((more : List Text)
+        → asks so_far.new more ≡ asks so_far.old (field.now.text.now ∷ more)) }
     ensures err { IfErr result (λ e. (more : List Text) → IfSome (line_fault_in e)
-        (λ fault. asked_after (field_of shape) dims fields.old (field.now.text.now ∷ more)
-        ≡ Err fault)) }
+        (λ fault. asks so_far.old (field.now.text.now ∷ more) ≡ Err fault)) }
 {
-    let place = fields.len() + 1;
-    if place > u32::from(dims) {
+    let dims = u32::from(so_far.dims);
+    let place = so_far.fields.len() + 1;
+    if place > dims {
         return Err(LineRefused::Field(place));
     }
-    let Some(asked) = read_field(alloc, shape, field)? else {
+    let Some(asked) = read_field(alloc, so_far.shape, field)? else {
         return Err(LineRefused::Field(place));
     };
-    fields.push(asked)?;
+    so_far.fields.push(asked)?;
     Ok(())
 }
 
 // Reads each field of a record as a field of the cell, or of the box, that is asked for.
-fn push_fields(
-    alloc: Global,
-    shape: Shape,
-    dims: u8,
-    row: &ByteRecord,
-    fields: &mut Fields,
-) -> Result<(), LineRefused>
+fn push_fields(alloc: Global, row: &ByteRecord, so_far: &mut AskedFields) -> Result<(), LineRefused>
     requires text { All IsUtf8 (fields_of row.now) }
     requires size { bytes_in (fields_of row.now) ≤ MAX_FILE }
-    requires few { length fields.old ≤ dims }
-    ensures ok { OnOk result ((more : List Text) → asked_after (field_of shape) dims fields.new more
-        ≡ asked_after (field_of shape) dims fields.old (fields_of row.now ++ more)) }
-    ensures few { OnOk result (length fields.new ≤ dims) }
+    ensures ok { OnOk result ((more : List Text)
+        → asks so_far.new more ≡ asks so_far.old (fields_of row.now ++ more)) }
     ensures err { IfErr result (λ e. (more : List Text) → IfSome (line_fault_in e)
-        (λ fault. asked_after (field_of shape) dims fields.old (fields_of row.now ++ more)
-        ≡ Err fault)) }
+        (λ fault. asks so_far.old (fields_of row.now ++ more) ≡ Err fault)) }
 {
     'fields: for at in 0..row.len() {
         let text = str::from_utf8(field(row, at)).unwrap();
-        push_field(alloc, shape, dims, &Part { text }, fields)?;
+        push_field(alloc, &Part { text }, so_far)?;
     }
     Ok(())
 }
 
 #[tactic(auto, using(crate::proofs::Asking::asks_all, crate::proofs::Asking::asks_too_few))]
 /// Returns the fields if none is missing.
-pub fn check_count(shape: Shape, dims: u8, fields: Fields) -> Result<Fields, LineRefused>
-    requires { length fields ≤ dims }
-    ensures { Gives line_fault_in (λ fields. fields) result
-        (asked_after (field_of shape) dims fields []) }
+pub(crate) fn check_count(so_far: AskedFields) -> Result<Fields, LineRefused>
+    ensures { Gives line_fault_in (λ fields. fields) result (asks so_far []) }
 {
+    let AskedFields {
+        shape: _,
+        dims,
+        fields,
+    } = so_far;
     let count = fields.len();
     if count < u32::from(dims) {
         return Err(LineRefused::Field(count + 1));
@@ -124,24 +115,19 @@ pub fn check_count(shape: Shape, dims: u8, fields: Fields) -> Result<Fields, Lin
 // Appends what the fields of all remaining records ask.
 fn push_records(
     alloc: Global,
-    shape: Shape,
-    dims: u8,
     rows: &mut RecordReader<'_>,
     row: &mut ByteRecord,
-    fields: &mut Fields,
+    so_far: &mut AskedFields,
 ) -> Result<(), LineRefused>
     requires text { All (All IsUtf8) rows.old }
     requires size { bytes_in_all rows.old ≤ MAX_FILE }
-    requires few { length fields.old ≤ dims }
-    ensures ok { OnOk result (asked_after (field_of shape) dims fields.new []
-        ≡ asked_after (field_of shape) dims fields.old (flat_map (λ fields. fields) rows.old)) }
-    ensures few { OnOk result (length fields.new ≤ dims) }
+    ensures ok { OnOk result
+        (asks so_far.new [] ≡ asks so_far.old (flat_map (λ fields. fields) rows.old)) }
     ensures err { IfErr result (λ e. IfSome (line_fault_in e)
-        (λ fault. asked_after (field_of shape) dims fields.old
-        (flat_map (λ fields. fields) rows.old) ≡ Err fault)) }
+        (λ fault. asks so_far.old (flat_map (λ fields. fields) rows.old) ≡ Err fault)) }
 {
     'records: while rows.next(row)? {
-        push_fields(alloc, shape, dims, row, fields)?;
+        push_fields(alloc, row, so_far)?;
     }
     Ok(())
 }
@@ -156,12 +142,16 @@ fn read_records(alloc: Global, shape: Shape, dims: u8, rest: &Part) -> Result<Fi
 {
     let mut rows = RecordReader::new(alloc, rest.text.as_bytes());
     let mut row = ByteRecord::new(alloc);
-    let mut fields = Fields::new(alloc);
-    let pushed = push_records(alloc, shape, dims, &mut rows, &mut row, &mut fields);
+    let mut so_far = AskedFields {
+        shape,
+        dims,
+        fields: Fields::new(alloc),
+    };
+    let pushed = push_records(alloc, &mut rows, &mut row, &mut so_far);
     drop(rows);
     drop(row);
     match pushed {
-        Ok(()) => check_count(shape, dims, fields),
+        Ok(()) => check_count(so_far),
         Err(cause) => Err(cause),
     }
 }

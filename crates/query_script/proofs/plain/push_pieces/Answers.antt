@@ -3,9 +3,8 @@ use Rattle.std.proofs.lemmas.List.{length-append}
 use Rattle.std.proofs.lemmas.Str.Pattern.{split_parts}
 use Rattle.std.proofs.lemmas.Result.{IfErr-weaker, on_ok_weaker, err_from_is_err_and}
 use Rattle.cube_defs.specs.Text.{Text}
-use Rattle.query_script.specs.Fields.{field_of}
 use Rattle.text_lines.specs.Plain.{pieces}
-use Rattle.query_script.specs.Progress.{asked_after}
+use Rattle.query_script.specs.Progress.{asks}
 use Rattle.text_lines.proofs.CallerLemmas.{split-cut}
 use Rattle.query_script.proofs.plain.push_pieces.Goals as goal
 
@@ -19,10 +18,9 @@ pieces-preserved c =
     record {
       asked = λ more.
           c.in_ok-push_field.ensures.ok (pieces c.in-Some.behind.now ++ more)
-          ∙ ap (λ (all : List Text). asked_after (field_of c.args.shape) c.args.dims c.pieces.fields (all ++ more))
+          ∙ ap (λ (all : List Text). asks c.pieces.so_far (all ++ more))
           (sym cut)
           ∙ c.pieces.invariant.asked more;
-      few = c.in_ok-push_field.ensures.few;
       size = omega (
         arith,
         ap length parts.0,
@@ -46,7 +44,7 @@ returns-clause-ok c =
     let cut : pieces c.pieces.left.now ≡ c.pieces.left.now ∷ []
     = split-cut 44 c.pieces.left.now None c.in_default.ensures.cases (omega arith) in
     on_ok_weaker c.push_field-2.result (λ ok more. ok more
-    ∙ ap (λ (all : List Text). asked_after (field_of c.args.shape) c.args.dims c.pieces.fields (all ++ more))
+    ∙ ap (λ (all : List Text). asks c.pieces.so_far (all ++ more))
     (sym cut) ∙ c.pieces.invariant.asked more) c.push_field-2.ensures.ok
 
 pub returns-clause-err : goal.returns-clause-err

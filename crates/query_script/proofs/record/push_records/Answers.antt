@@ -27,7 +27,6 @@ records-preserved c =
     record {
       asked = c.in_ok-push_fields.ensures.ok (flat_map (λ fields. fields) c.next.new.self)
           ∙ rw left at c.records.invariant.asked;
-      few = c.in_ok-push_fields.ensures.few;
       text = All-rest (All IsUtf8) (fields_of c.next.new.row) c.next.new.self c.records.rows left
           c.records.invariant.text;
       size = omega (arith, ap bytes_in_all left, c.records.invariant.size);

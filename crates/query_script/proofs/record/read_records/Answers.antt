@@ -12,7 +12,7 @@ push_records-pushed-requires-clause-size c
 
 pub returns-in-Ok : goal.returns-in-Ok
 returns-in-Ok c =
-    let so_far = rw (c.in-Ok.is, c.new-fields.ensures) at c.push_records-pushed.ensures.ok in
+    let so_far = rw (c.in-Ok.is, c.new.ensures) at c.push_records-pushed.ensures.ok in
     let whole = record-asks c.args.shape c.args.dims c.args.rest.now.text.now c.as_bytes.result.now c.new-rows.result
     c.as_bytes.ensures.value c.requires c.new-rows.ensures.records ∙ sym so_far in
     rw whole c.check_count.ensures
@@ -21,4 +21,4 @@ pub returns-in-Err : goal.returns-in-Err
 returns-in-Err c =
     let whole = record-asks c.args.shape c.args.dims c.args.rest.now.text.now c.as_bytes.result.now c.new-rows.result
     c.as_bytes.ensures.value c.requires c.new-rows.ensures.records in
-    rw whole (rw (c.in-Err.is, c.new-fields.ensures) at c.push_records-pushed.ensures.err)
+    rw whole (rw (c.in-Err.is, c.new.ensures) at c.push_records-pushed.ensures.err)
