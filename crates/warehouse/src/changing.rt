@@ -9,7 +9,6 @@ ghost use Rattle.csv_load.specs.Batch.{change_at, id_of, inserted, is_deletion, 
 ghost use Rattle.cube_defs.specs.Tree.{IsCanonical, nodes};
 ghost use Rattle.qc_arena.specs.Map as arena;
 ghost use Rattle.qc_arena.specs.Map.{is_open, is_touched, overlaid};
-ghost use Rattle.qc_schema.specs.Schema.{IsLayout};
 ghost use Rattle.std.specs.Ordering.{nat_cmp};
 ghost use Rattle.warehouse.specs.Batch as batches;
 ghost use Rattle.warehouse.specs.Batch.{first_number, first_twice, full_dim, result_of, texts_after, with_tuple};
@@ -323,7 +322,6 @@ fn make_index<L: Ledger>(
     alloc: Global,
     steps: &mut Steps<L>,
 ) -> Result<(), Memory>
-    requires layout { IsLayout schema.now }
     requires opened { is_open tree.now ≡ true }
     requires before { IfSome tree.now.was (λ before. IsTreeOfSome schema.now before.tree
         × IsIndexed schema.now before.tree index.old) }

@@ -26,9 +26,12 @@ use std::sync::ledger::Ledger;
 
 // The scales of the measures.
 fn scales(schema: &Schema) -> [u8; MAX_MEASURES as usize]
-    requires { IsLayout schema.now }
-    ensures { take (length schema.now.measures) result ≡ map (λ m. m.scale) schema.now.measures }
+    ensures value { take (length schema.now.measures) result
+        ≡ map (λ m. m.scale) schema.now.measures }
+    ensures layout { IsLayout schema.now }
 {
+    // A schema has a layout of its own.
+    let _dims = schema.dims();
     let mut scales = [0; MAX_MEASURES as usize];
     'measures: for measure in 0..schema.measures() {
         scales[usize::from(measure)] = schema.scale(measure);
@@ -38,7 +41,6 @@ fn scales(schema: &Schema) -> [u8; MAX_MEASURES as usize]
 
 /// An index of the kinds that the schema names. It has no classes.
 pub(crate) fn new_index(alloc: Global, schema: &Schema) -> Result<Index, Memory>
-    requires { IsLayout schema.now }
     ensures { IfOk result (λ index. IsIndexed schema.now finmap.empty index) }
 {
     let all = scales(schema);
@@ -65,7 +67,7 @@ fn push_class(filling: &mut IndexBuilder, number: u32, class: &Option<Agg>) -> R
 
 // An index of the kinds that the schema names, to be filled with the classes of the tree.
 fn new_filling(alloc: Global, schema: &Schema, tree: &QcArena) -> Result<IndexBuilder, Memory>
-    requires { IsLayout schema.now }
+    ensures layout { IsLayout schema.now }
     ensures units { IfOk result (λ filling. gathered_units filling
         ≡ map (λ kind. (kind, scale_in schema.now kind)) schema.now.indexes) }
     ensures classes { IfOk result (AreKeysOf []) }
@@ -85,7 +87,6 @@ fn index_of_listed<L: Ledger>(
     nodes: &Vec<NodeNo>,
     steps: &mut Steps<L>,
 ) -> Result<Index, Memory>
-    requires layout { IsLayout schema.now }
     requires tree { IsTreeOfSome schema.now tree.now.now }
     requires nodes { ListsClasses tree.now.now (numbers_of nodes.now.items) }
     ensures index { IfOk result (λ index. IsIndexed schema.now tree.now.now index) }
@@ -112,7 +113,6 @@ fn filled_index<L: Ledger>(
     tree: &QcArena,
     steps: &mut Steps<L>,
 ) -> Result<Index, Memory>
-    requires layout { IsLayout schema.now }
     requires tree { IsTreeOfSome schema.now tree.now.now }
     ensures index { IfOk result (λ index. IsIndexed schema.now tree.now.now index) }
     ensures steps { steps.new ≤ steps.old + 2 * finmap.len tree.now.now }
@@ -132,7 +132,6 @@ pub(crate) fn listed_index<L: Ledger>(
     nodes: &Vec<NodeNo>,
     steps: &mut Steps<L>,
 ) -> Result<Index, Memory>
-    requires layout { IsLayout schema.now }
     requires tree { IsTreeOfSome schema.now tree.now.now }
     requires nodes { AreNodesOf tree.now.now (numbers_of nodes.now.items) }
     ensures index { IfOk result (λ index. IsIndexed schema.now tree.now.now index) }
@@ -151,7 +150,6 @@ pub(crate) fn build_index<L: Ledger>(
     alloc: Global,
     steps: &mut Steps<L>,
 ) -> Result<(), Memory>
-    requires layout { IsLayout schema.now }
     requires opened { is_open tree.now ≡ true }
     requires before { IfSome tree.now.was (λ before. IsTreeOfSome schema.now before.tree
         × IsIndexed schema.now before.tree index.old) }
@@ -176,7 +174,6 @@ pub(crate) fn change_index(
     index: &mut Index,
     alloc: Global,
 ) -> Result<(), Memory>
-    requires layout { IsLayout schema.now }
     requires opened { is_open tree.now ≡ true }
     requires before { IfSome tree.now.was (λ before. IsTreeOfSome schema.now before.tree
         × IsIndexed schema.now before.tree index.old) }
@@ -184,6 +181,8 @@ pub(crate) fn change_index(
     ensures indexed { OnOk result (IsIndexed schema.now tree.now.now index.new) }
     ensures err { OnErr result (index.new ≡ index.old) }
 {
+    // A schema has a layout of its own.
+    let _dims = schema.dims();
     if schema.indexes().is_empty() {
         return Ok(());
     }

@@ -103,7 +103,6 @@ pub(crate) fn tree_and_index<L: Ledger>(
     table: &Table,
     steps: &mut Steps<L>,
 ) -> Result<(QcArena, Index), PartsRefused>
-    requires layout { IsLayout schema.now }
     requires valid { IsTable table.now }
     requires dims { table.now.dims ≡ length schema.now.dims }
     requires measures { table.now.measures ≡ length schema.now.measures }

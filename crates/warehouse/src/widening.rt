@@ -12,7 +12,7 @@ ghost use Rattle.iceberg_query.specs.Subtree.{numbers};
 ghost use Rattle.qc_arena.specs.Map.{CanChange, frame, is_open, is_touched};
 ghost use Rattle.qc_arena.specs.RecordReaders.{record_at};
 ghost use Rattle.qc_schema.specs.Grammar.{is_new_name};
-ghost use Rattle.qc_schema.specs.Schema.{IsLayout, max_dims};
+ghost use Rattle.qc_schema.specs.Schema.{max_dims};
 ghost use Rattle.tree_laws.specs.Counts.{classes_in};
 ghost use Rattle.tree_search.specs.Found.{IsTreeOf};
 ghost use Rattle.warehouse.specs.Changing.{AreParts, contents_of, state_in};
@@ -198,7 +198,6 @@ fn widen_both<L: Ledger>(
     alloc: Global,
     steps: &mut Steps<L>,
 ) -> Result<Index, Memory>
-    requires layout { IsLayout wide.now }
     requires dims { length wide.now.dims ≡ table.old.dims + 1 }
     requires measures { length wide.now.measures ≡ table.old.measures }
     requires few { table.old.dims < MAX_DIMS }

@@ -15,7 +15,7 @@ change-requires-clause-add c =
     let b : IsBegun c.args.schema.now tree c.args.index.now
     = begun c.args.schema.now tree c.args.index.now c.requires.opened c.requires.before in
     subst (λ (ps : List (NodeNo × Agg)). All (λ r. HaveMeasure r.kind ps) c.args.index.now) (sym c.deref.ensures.value)
-    (measured c.args.schema.now tree.now c.args.index.now c.requires.layout c.requires.now b.indexed.kinds
+    (measured c.args.schema.now tree.now c.args.index.now c.dims-dims.ensures.layout c.requires.now b.indexed.kinds
     (class_was tree) c.in_ok-added.added.items c.in_ok-added.ensures)
 
 pub change-requires-clause-remove : goal.change-requires-clause-remove
@@ -25,7 +25,7 @@ change-requires-clause-remove c =
     = begun c.args.schema.now tree c.args.index.now c.requires.opened c.requires.before in
     subst (λ (ps : List (NodeNo × Agg)). All (λ r. HaveMeasure r.kind ps) c.args.index.now)
     (sym c.deref-2.ensures.value)
-    (measured c.args.schema.now b.tree c.args.index.now c.requires.layout b.is b.indexed.kinds
+    (measured c.args.schema.now b.tree c.args.index.now c.dims-dims.ensures.layout b.is b.indexed.kinds
     (class_now tree) c.in_ok-removed.removed.items
     (subst (λ (class : ℕ → Option defs.Agg). AreNew (class_now tree) class c.in_ok-removed.removed.items) b.was
     c.in_ok-removed.ensures))

@@ -46,7 +46,7 @@ push_class-requires g c =
     go : (o : Option Agg) → option_map agg_in o ≡ class_now c.args.tree.now c.index-node.result.now.0
         → IfSome o (λ class. All (λ unit. IsThere class.measures unit.0) (gathered_units c.places.filling))
     go None e = tt
-    go (Some class) e = class-measured c.args.schema.now c.args.tree.now.now c.requires.layout c.requires.tree
+    go (Some class) e = class-measured c.args.schema.now c.args.tree.now.now c.new_filling.ensures.layout c.requires.tree
         c.index-node.result.now.0 class (sym e) (gathered_units c.places.filling) c.places.invariant.units
 
 pub finish-requires : goal.finish-requires

@@ -11,14 +11,14 @@ pub new-requires-clause-scales : goal.new-requires-clause-scales
 new-requires-clause-scales c =
     let measures = c.args.schema.now.measures in
     let same : take c.from-count.result c.scales-all.result ≡ map (λ (m : Measure). m.scale) measures =
-    ap (λ (n : ℕ). take n c.scales-all.result) (c.from-count.ensures ∙ c.measures.ensures) ∙ c.scales-all.ensures in
-    subst (λ (ss : List ℕ). All (λ scale. scale ≤ MAX_SCALE) ss) (sym same) (small-scales measures c.requires.scales)
+    ap (λ (n : ℕ). take n c.scales-all.result) (c.from-count.ensures ∙ c.measures.ensures) ∙ c.scales-all.ensures.value in
+    subst (λ (ss : List ℕ). All (λ scale. scale ≤ MAX_SCALE) ss) (sym same) (small-scales measures c.scales-all.ensures.layout.scales)
 
 pub returns-clause-units : goal.returns-clause-units
 returns-clause-units c =
     let measures = c.args.schema.now.measures in
     let same : take c.from-count.result c.scales-all.result ≡ map (λ (m : Measure). m.scale) measures =
-    ap (λ (n : ℕ). take n c.scales-all.result) (c.from-count.ensures ∙ c.measures.ensures) ∙ c.scales-all.ensures in
+    ap (λ (n : ℕ). take n c.scales-all.result) (c.from-count.ensures ∙ c.measures.ensures) ∙ c.scales-all.ensures.value in
     units-named c.new.result _ (map (unit-in c.args.schema.now) c.args.schema.now.indexes)
     (ap (λ (ss : List ℕ). map (λ (kind : AggKind). (kind, scale_of ss kind)) c.indexes.result.now) same
     ∙ ap (λ (kinds : List AggKind). map (unit-in c.args.schema.now) kinds) c.indexes.ensures) c.new.ensures.units
