@@ -11,6 +11,7 @@ use Rattle.cube_defs.specs.Cell.{Cell, cell_of, cell_prefix, leq, with_value}
 use Rattle.cube_defs.specs.Rows.{cov, covers}
 use Rattle.cube_defs.specs.Tree.{Tree, cell_at}
 use Rattle.cube_defs.specs.declared.limits.TheConstants.{MAX_ROWS}
+use Rattle.cube_laws.specs.Parts.{IsLastAny}
 use Rattle.cube_laws.specs.Total.{agg_at}
 use Rattle.qc_arena.specs.Map.{Arena}
 use Rattle.tree_laws.specs.Walk.{closure_prefix}
@@ -20,6 +21,7 @@ use Rattle.batch_delete.specs.declared.deleted_row.DeletedRow.{DeletedRow}
 use Rattle.batch_delete.specs.declared.generalizing.NodeCell.{NodeCell}
 use Rattle.batch_delete.specs.declared.parts.Rest.{Rest}
 use Rattle.batch_delete.specs.declared.plan.NodePlan.{NodePlan}
+use Rattle.batch_delete.specs.Generalizing.{AreGeneralizing}
 use Rattle.batch_delete.specs.Plan.{planned_rest_in}
 use Rattle.batch_delete.specs.Rests.{AreGreaterPlanned, Deletion, IsRest, SharesAtMost, rows_after, rows_before, source_before}
 
@@ -80,6 +82,23 @@ IsPartPlanned d row plan u i = (v q : ℕ) (w : Cell ℕ) → slice_index_or row
     → closure_in (source_before d) (with_value u i v) ≡ Some w → cell_at row.arena.now.now q ≡ Some w
     → IsRest d.measures (rows_after d) w (planned_rest_in plan q)
 
+-- such a prefix's number, where the class's part by the tuple's value is planned for
+pub record HasOwnPart (d : Deletion) (class : Class) (plan : List (ℕ × NodePlan)) (i number : ℕ) : Type 0 where
+  pub front : IsPrefixNode d class i number
+  pub planned : IsPartPlanned d class.row.now plan class.cell i
+
+-- such a class whose part by the tuple's value in its last dimension of Any is planned for
+pub record IsLastPartPlanned (d : Deletion) (row : DeletedRow) (plan : List (ℕ × NodePlan)) (b : NodeCell)
+    (i : ℕ) : Type 0 where
+  pub class : IsClassOfRow d row b
+  pub last : IsLastAny b.cell i
+  pub planned : IsPartPlanned d row plan b.cell i
+
+-- such a class whose parts by the tuple's values are all planned for
+pub record ArePartsPlanned (d : Deletion) (row : DeletedRow) (plan : List (ℕ × NodePlan)) (b : NodeCell) : Type 0 where
+  pub class : IsClassOfRow d row b
+  pub planned : (i : ℕ) → slice_get b.cell i ≡ Some None → IsPartPlanned d row plan b.cell i
+
 -- a search for the cell goes on from the number after dimension i
 abbrev pub GoesOn : Deletion → Tree ℕ → Cell ℕ → ℕ → ℕ → Type 0
 GoesOn d tree c i k = IsNumberOfCell tree (Some k) (closure_prefix (eq_by_cmp nat_cmp) (rows_before d) c (suc i))
@@ -117,6 +136,16 @@ pub record MaySettle (d : Deletion) (u : Cell ℕ) (rest : Rest) : Type 0 where
   pub above : SharesAtMost d u rest.shared
   pub all : rest.agg.count ≡ length (cov (eq_by_cmp nat_cmp) (rows_after d) u)
       → IsRest d.measures (rows_after d) u (Some rest)
+
+-- what is known of such a class, and of some of its rows that stay, if there are any
+pub record CanSettle (d : Deletion) (class : Class) (some : Option Rest) : Type 0 where
+  pub known : IsKnown d class
+  pub rest : IfSome some (λ rest. MaySettle d class.cell rest)
+
+-- the row that goes, with the nodes that generalize its tuple
+pub record HasGeneralizing (d : Deletion) (row : DeletedRow) (list : List NodeCell) : Type 0 where
+  pub gone : IsDeletedRow d row
+  pub below : AreGeneralizing row.arena.now.now row.tuple.now (length row.tuple.now) list
 
 -- the row that goes, with a node that generalizes its tuple, all greater ones being planned for
 pub record IsNextPlanned (d : Deletion) (row : DeletedRow) (plan : List (ℕ × NodePlan))

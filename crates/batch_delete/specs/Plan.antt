@@ -163,6 +163,16 @@ pub record IsNewRest (a : Arena) (tuple : Cell ℕ) (plan : List (ℕ × NodePla
   pub targets : (j t : ℕ) (x : Edge ℕ ℕ) → slice_get (record_at a.now b.node.0).edges j ≡ Some x
       → new_target tuple (heir_in plan) (next_entry (depth b.cell) rest.shared) x ≡ Some t → IsSome (map.get a.now t)
 
+-- the node may be changed, and if it stays, its rest is such a one
+pub record CanRewriteOrRemove (a : Arena) (tuple : Cell ℕ) (plan : List (ℕ × NodePlan)) (b : NodeCell) : Type 0 where
+  pub node : CanRewrite a tuple b
+  pub rest : IfSome (rest_if_stays_in plan b.node.0) (λ rest. IsNewRest a tuple plan b rest)
+
+-- the node may be changed, and its forced child's value, if it has one, is a code
+pub record CanForce (a : Arena) (k : ℕ) (next : Option (ℕ × ℕ)) : Type 0 where
+  pub change : CanChange a k
+  pub code : IfSome next (λ n. IsCode n.1)
+
 -- whether a number stays, if it is one of the list
 abbrev pub Stays : List NodeCell → List (ℕ × NodePlan) → ℕ → Type 0
 Stays list plan t = (k : ℕ) (b : NodeCell) → slice_get list k ≡ Some b → b.node.0 ≡ t → IsSome (rest_if_stays_in plan t)

@@ -10,7 +10,7 @@ ghost use Rattle.cube_laws.specs.Total.{join_aggs, join_cells};
 ghost use Rattle.tree_search.specs.Found.{closure_in};
 ghost use Rattle.batch_delete.specs.declared.generalizing.NodeCell.{NodeCell};
 ghost use Rattle.batch_delete.specs.Generalizing.{AreGeneralizing};
-ghost use Rattle.batch_delete.specs.DeletedRow.{ArePartOf, HasFound, IsClassOfRow, IsKnown, IsPartLabel, IsPartPlanned, IsPrefixNode, IsSearch};
+ghost use Rattle.batch_delete.specs.DeletedRow.{ArePartOf, ArePartsPlanned, HasFound, HasOwnPart, IsKnown, IsLastPartPlanned, IsPartLabel, IsPrefixNode};
 ghost use Rattle.batch_delete.specs.Plan.{planned_rest_in, prefix_labels, is_value, last_any_of};
 ghost use Rattle.batch_delete.specs.Rests.{CanJoin, Deletion, IsRest, IsTotal, agg_of_rest, other_values, rows_after, rows_before, shared_of, source_before};
 
@@ -98,8 +98,7 @@ fn own_part<L: Ledger>(
     steps: &mut Steps<L>,
 ) -> Option<Rest>
     ghost d: { Deletion }
-    requires front { IsPrefixNode d class.now dim front.0 }
-    requires planned { IsPartPlanned d class.now.row.now plan.now.entries class.now.cell dim }
+    requires { HasOwnPart d class.now plan.now.entries dim front.0 }
     ensures rest { (v : ℕ) → slice_index_or class.now.row.now.tuple.now dim None ≡ Some v
         → IsRest d.measures (rows_after d) (with_value class.now.cell dim v) result }
     ensures steps { steps.new ≤ steps.old + (2 * length class.now.cell + 1) }
@@ -237,9 +236,7 @@ fn all_parts<L: Ledger>(
     steps: &mut Steps<L>,
 ) -> Option<Rest>
     ghost d: { Deletion }
-    requires class { IsClassOfRow d row.now below.now }
-    requires last { IsLastAny below.now.cell dim }
-    requires planned { IsPartPlanned d row.now plan.now.entries below.now.cell dim }
+    requires { IsLastPartPlanned d row.now plan.now.entries below.now dim }
     ensures rest { IsRest d.measures (rows_after d) below.now.cell result }
     ensures steps { (q : ℕ)
         → cell_at row.now.arena.now.now q ≡ Some (cell_prefix dim below.now.cell) →
@@ -260,9 +257,7 @@ pub(crate) fn class_after<L: Ledger>(
     steps: &mut Steps<L>,
 ) -> Option<Rest>
     ghost d: { Deletion }
-    requires class { IsClassOfRow d row.now below.now }
-    requires planned { (i : ℕ) → slice_get below.now.cell i ≡ Some None
-        → IsPartPlanned d row.now plan.now.entries below.now.cell i }
+    requires { ArePartsPlanned d row.now plan.now.entries below.now }
     ensures rest { IsRest d.measures (rows_after d) below.now.cell result }
     ensures steps { (list : List NodeCell)
         → AreGeneralizing row.now.arena.now.now row.now.tuple.now (length row.now.tuple.now) list →

@@ -13,7 +13,7 @@ ghost use Rattle.tree_search.specs.Found.{IsTreeOf, IsTree, IsNumberOfCell};
 ghost use Rattle.batch_delete.specs.declared.generalizing.NodeCell.{NodeCell};
 ghost use Rattle.batch_delete.specs.Generalizing.{AreGeneralizing};
 ghost use Rattle.batch_delete.specs.Plan.{planned_rest_in, prefix_labels, heir_in, last_any_of, planning_cost};
-ghost use Rattle.batch_delete.specs.DeletedRow.{IsDeletedRow, IsDeletion, IsNextPlanned, IsRestOfNode};
+ghost use Rattle.batch_delete.specs.DeletedRow.{HasGeneralizing, IsDeletion, IsNextPlanned, IsRestOfNode};
 ghost use Rattle.batch_delete.specs.Rests.{AreGreaterPlanned, ArePlanned, Deletion, IsRest, rows_after, rows_before, source_before};
 
 use crate::Memory;
@@ -187,9 +187,7 @@ fn plan_row<L: Ledger>(
     steps: &mut Steps<L>,
 ) -> Result<(), Memory>
     ghost d: { Deletion }
-    requires row { IsDeletedRow d row.now }
-    requires below { AreGeneralizing row.now.arena.now.now row.now.tuple.now
-        (length row.now.tuple.now) list.now.items }
+    requires { HasGeneralizing d row.now list.now.items }
     ensures planned { OnOk result
         (ArePlanned d row.now.arena.now.now plan.new.entries list.now.items 0) }
     ensures steps { OnOk result

@@ -8,7 +8,7 @@ ghost use Rattle.cell_core.specs.Entry.{IsCode};
 ghost use Rattle.std.specs.Option.{option_and_then, option_copied, option_map};
 ghost use Rattle.qc_arena.specs.Edges.{rises};
 ghost use Rattle.qc_arena.specs.RecordReaders.{edge_of, number, record_at};
-ghost use Rattle.batch_delete.specs.Plan.{CanRedirect, CanRedirectFrom, CanRedirectIn, CanRewrite, CanRewriteAll, ChangesOnly, IsNewRest, class_by, forced_by, heir_in, heir_target, is_left, left_to, outcome, rest_if_own_heir_of, rest_if_stays_in, rewriting_cost, rewritten, with_mixed, with_own, with_target};
+ghost use Rattle.batch_delete.specs.Plan.{CanForce, CanRedirect, CanRedirectFrom, CanRedirectIn, CanRewrite, CanRewriteAll, CanRewriteOrRemove, ChangesOnly, IsNewRest, class_by, forced_by, heir_in, heir_target, is_left, left_to, outcome, rest_if_own_heir_of, rest_if_stays_in, rewriting_cost, rewritten, with_mixed, with_own, with_target};
 
 use crate::Memory;
 use crate::cells::{depth, next_value};
@@ -209,8 +209,7 @@ fn rewrite_forced<L: Ledger>(
     next: Option<(u8, Code)>,
     steps: &mut Steps<L>,
 )
-    requires change { CanChange arena.old node.0 }
-    requires code { IfSome next (λ n. IsCode n.1) }
+    requires { CanForce arena.old node.0 next }
     ensures here { map.get arena.new.now node.0
         ≡ option_map (with_forced (forced_by next (record_at arena.old.now node.0)))
         (map.get arena.old.now node.0) }
@@ -298,9 +297,7 @@ fn rewrite_or_remove<L: Ledger>(
     below: &NodeCell,
     steps: &mut Steps<L>,
 ) -> Result<(), Memory>
-    requires node { CanRewrite arena.old tuple.now below.now }
-    requires rest { IfSome (rest_if_stays_in plan.now.entries below.now.node.0)
-        (λ rest. IsNewRest arena.old tuple.now plan.now.entries below.now rest) }
+    requires { CanRewriteOrRemove arena.old tuple.now plan.now.entries below.now }
     ensures here { OnOk result (map.get arena.new.now below.now.node.0
         ≡ option_and_then (outcome tuple.now plan.now.entries below.now)
         (map.get arena.old.now below.now.node.0)) }

@@ -1,6 +1,6 @@
 // Whether a class stays when the row is deleted.
 ghost use Rattle.std.specs.Prelude.{IfSome, None, Some, false, length, slice_get, true, ℕ, ◌+◌, ◌<◌, ◌≡◌};
-ghost use Rattle.batch_delete.specs.DeletedRow.{IsKnown, MaySettle};
+ghost use Rattle.batch_delete.specs.DeletedRow.{CanSettle};
 ghost use Rattle.batch_delete.specs.Rests.{Deletion, IsRest, rows_after};
 
 use crate::cells::has;
@@ -66,8 +66,7 @@ fn are_all_but_one(some: &Rest, whole: Option<Agg>) -> bool
 /// one. They also do if they show that the class stays, and its aggregate without the row is known.
 pub(crate) fn settled(class: &Class<'_>, some: &Option<Rest>) -> Option<Rest>
     ghost d: { Deletion }
-    requires class { IsKnown d class.now }
-    requires rest { IfSome some.now (λ rest. MaySettle d class.now.cell rest) }
+    requires { CanSettle d class.now some.now }
     ensures rest { IfSome result
         (λ rest. IsRest d.measures (rows_after d) class.now.cell (Some rest)) }
 {

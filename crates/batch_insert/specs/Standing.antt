@@ -47,3 +47,20 @@ pub record StartsAt (t : Cell ℕ) (a : Arena) (m i : ℕ) (chain : OldPrefix) (
   pub own : chain.is_own ≡ true → (c : Case t a) (u : Cell ℕ) → old_closure c (part t m) ≡ Some u
       → cell_prefix i u ≡ part t m
   pub spot : HasPlannedNode plan (part t m)
+
+-- it is before one of the tuple's dimensions, at a node that is planned
+pub record StandsBefore (t : Cell ℕ) (a : Arena) (m i : ℕ) (chain : OldPrefix) (plan : Plan) : Type 0 where
+  pub mask : IsMaskBefore t m i
+  pub at : StandsAt t a m i chain
+  pub node : HasPlannedNode plan (part t m)
+
+-- it may read a label: there is such a dimension, and a node if the chain has a number
+pub record CanRead (t : Cell ℕ) (a : Arena) (i : ℕ) (number : Option NodeNo) : Type 0 where
+  pub dim : i < length t
+  pub chain : IfSome number (λ k. IsSome (map.get a.now k.0))
+
+-- so it may tell what the target of an old label shares with the tuple: the chain's node shares the values of the mask
+pub record CanShare (t : Cell ℕ) (a : Arena) (m i : ℕ) (start : OldPrefix) (target : Option NodeNo) : Type 0 where
+  pub dim : i < length t
+  pub chain : IfSome start.node (λ k. Shares t a.now m start.is_own k.0)
+  pub old : IfSome target (λ k. IsSome (map.get a.now k.0))

@@ -6,6 +6,7 @@ ghost use Rattle.cube_defs.specs.Cell as defs;
 ghost use Rattle.cube_defs.specs.Tree.{cell_at};
 ghost use Rattle.tree_laws.specs.Labels.{target_after_row};
 ghost use Rattle.batch_insert.specs.Masks.{Shares};
+ghost use Rattle.batch_insert.specs.Standing.{CanShare};
 
 use crate::tuples::{Insertion, tuple_code};
 use cell_core::{Code, NodeNo, Steps};
@@ -31,10 +32,7 @@ pub(crate) fn shared<L: Ledger>(
     dim: u8,
     steps: &mut Steps<L>,
 ) -> (u16, bool)
-    requires dim { dim < length insertion.now.tuple.now }
-    requires chain { IfSome chain.node
-        (λ k. Shares insertion.now.tuple.now insertion.now.arena.now.now mask chain.is_own k.0) }
-    requires old { IfSome old (λ k. IsSome (map.get insertion.now.arena.now.now k.0)) }
+    requires { CanShare insertion.now.tuple.now insertion.now.arena.now mask dim chain old }
     ensures mask { result.0
         ≡ defs.mask (target_after_row nat_eq
         (option_and_then (λ k. cell_at insertion.now.arena.now.now k.0) old)

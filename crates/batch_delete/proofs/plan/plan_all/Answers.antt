@@ -6,8 +6,8 @@ use Rattle.batch_delete.proofs.plan.plan_all.Goals as goal
 pub plan_row-requires : goal.plan_row-requires
 plan_row-requires g c κs within = (
   within,
-  (
-    record {
+  record {
+    gone = record {
       tree = c.requires.1.0.tree;
       long = c.requires.1.0.long;
       tuple = c.requires.1.0.tuple;
@@ -15,7 +15,7 @@ plan_row-requires g c κs within = (
           ∙ total_agg g.d.measures (rows_before g.d) c.args.tuple.now;
       duplicates = c.requires.1.0.duplicates;
       few = c.requires.1.0.few;
-    },
-    c.requires.1.1,
-  ),
+    };
+    below = c.requires.1.1;
+  },
 )

@@ -16,8 +16,8 @@ node_plan_of-fate-requires g c κs within =
     let b = c.index-below.result.now in
     let at = item_at xs j b (omega (arith, many, test)) ∙ ap (λ b. Some b) (sym c.index-below.ensures) in
     let next : length xs - c.nodes.k ≡ suc j = omega arith in
-    let row = c.requires.1.0 in
-    let are = c.requires.1.1 in
+    let row = c.requires.1.gone in
+    let are = c.requires.1.below in
     let had = subst (ArePlanned g.d a.now c.nodes.plan.entries xs) next c.nodes.invariant.planned in
     let greater = greater_planned a.width a.now g.d row.tree c.args.row.now.tuple.now row.long xs are j b at
     c.nodes.plan.entries had in
@@ -35,11 +35,11 @@ nodes-preserved g c =
     let at = item_at xs j b (omega (arith, many, test)) ∙ ap (λ b. Some b) (sym c.index-below.ensures) in
     let next : length xs - c.nodes.k ≡ suc j = omega arith in
     let here : j ≡ length xs - (c.nodes.k + 1) = omega arith in
-    let are = c.requires.1.1 in
+    let are = c.requires.1.below in
     let had = subst (ArePlanned g.d a.now c.nodes.plan.entries xs) next c.nodes.invariant.planned in
     let made = c.in_ok-add_node_plan.ensures in
     let fate = c.node_plan_of-fate.ensures in
-    let all = planned_more a.width a.now g.d c.requires.1.0.tree c.args.row.now.tuple.now c.requires.1.0.long xs are j b
+    let all = planned_more a.width a.now g.d c.requires.1.gone.tree c.args.row.now.tuple.now c.requires.1.gone.long xs are j b
     at c.nodes.plan.entries had c.add_node_plan.new.plan.entries c.node_plan_of-fate.result fate.after fate.heir
     made.here made.heir made.others made.heirs in
     let more = planning_more n a.now xs xs j b at in

@@ -29,12 +29,12 @@ class_after-requires g c κs within =
       node = at;
     } in (
       within,
-      (
-        record { gone = row; class = class },
-        (λ i any v q w has closes there. part_planned a.width a.now g.d tree k p at t row.tuple low
+      record {
+        class = record { gone = row; class = class };
+        planned = λ i any v q w has closes there. part_planned a.width a.now g.d tree k p at t row.tuple low
             (planned_rest_in c.args.plan.now.entries) c.requires.1.planned i v q w any
-            (row_value t g.d.r.tuple i v row.tuple has) closes there),
-      ),
+            (row_value t g.d.r.tuple i v row.tuple has) closes there;
+      },
     )
 
 pub returns-in-Some-clause-rest : goal.returns-in-Some-clause-rest

@@ -6,25 +6,20 @@ use Rattle.batch_delete.proofs.Settling.{can_rewrite, done_more, new_rest, other
 use Rattle.batch_delete.proofs.Settling.{settling_taken, there_more}
 use Rattle.batch_delete.proofs.record_rewriting.rewrite_or_remove_all.Goals as goal
 
-pub rewrite_or_remove-requires-clause-node : goal.rewrite_or_remove-requires-clause-node
-rewrite_or_remove-requires-clause-node g c =
+pub rewrite_or_remove-requires : goal.rewrite_or_remove-requires
+rewrite_or_remove-requires g c =
     let a = c.args.arena.now in
     let xs = c.args.list.now.items in
     let at = item_at xs c.nodes.k c.index.result.now (omega (arith, c.len-k-end.ensures, c.nodes-test.true))
     ∙ ap (λ b. Some b) (sym c.index.ensures) in
-    can_rewrite a.width a.now c.args.tuple.now c.args.plan.now.entries xs c.requires.ready c.nodes.k
-    c.index.result.now at c.nodes.arena c.nodes.invariant.others c.nodes.invariant.there c.nodes.invariant.width
-    c.nodes.invariant.opened (c.nodes.invariant.touched c.index.result.now.node.0
-    ∙ c.requires.touched c.nodes.k c.index.result.now at) c.requires.long
-
-pub rewrite_or_remove-requires-clause-rest : goal.rewrite_or_remove-requires-clause-rest
-rewrite_or_remove-requires-clause-rest g c =
-    let a = c.args.arena.now in
-    let xs = c.args.list.now.items in
-    let at = item_at xs c.nodes.k c.index.result.now (omega (arith, c.len-k-end.ensures, c.nodes-test.true))
-    ∙ ap (λ b. Some b) (sym c.index.ensures) in
-    new_rest a.width a.now c.args.tuple.now c.args.plan.now.entries xs c.requires.ready c.nodes.k c.index.result.now at
-    c.nodes.arena c.nodes.invariant.others c.nodes.invariant.there c.nodes.invariant.width
+    record {
+      node = can_rewrite a.width a.now c.args.tuple.now c.args.plan.now.entries xs c.requires.ready c.nodes.k
+          c.index.result.now at c.nodes.arena c.nodes.invariant.others c.nodes.invariant.there c.nodes.invariant.width
+          c.nodes.invariant.opened (c.nodes.invariant.touched c.index.result.now.node.0
+          ∙ c.requires.touched c.nodes.k c.index.result.now at) c.requires.long;
+      rest = new_rest a.width a.now c.args.tuple.now c.args.plan.now.entries xs c.requires.ready c.nodes.k
+          c.index.result.now at c.nodes.arena c.nodes.invariant.others c.nodes.invariant.there c.nodes.invariant.width;
+    }
 
 pub returns-in_err-rewrite_or_remove-clause-others : goal.returns-in_err-rewrite_or_remove-clause-others
 returns-in_err-rewrite_or_remove-clause-others g c =

@@ -48,12 +48,14 @@ returns-clause-here g c =
     c.class_agg_of_rest-class.ensures
     c.in-Ok.ensures.here c.rewrite_forced.ensures.here c.set_class.ensures.here
 
-pub rewrite_forced-requires-clause-change : goal.rewrite_forced-requires-clause-change
-rewrite_forced-requires-clause-change g c =
-    changed c.cut_edges.new.arena c.redirect_tuple_edges.new.arena c.args.below.now.node.0 _ c.in-Ok.ensures.here
-    c.redirect_tuple_edges.ensures.only
-    (changed c.args.arena.now c.cut_edges.new.arena c.args.below.now.node.0 _ c.cut_edges.ensures.here
-    c.cut_edges.ensures.only c.requires.node.change)
+pub rewrite_forced-requires : goal.rewrite_forced-requires
+rewrite_forced-requires g c = record {
+  change = changed c.cut_edges.new.arena c.redirect_tuple_edges.new.arena c.args.below.now.node.0 _
+      c.in-Ok.ensures.here c.redirect_tuple_edges.ensures.only
+      (changed c.args.arena.now c.cut_edges.new.arena c.args.below.now.node.0 _ c.cut_edges.ensures.here
+      c.cut_edges.ensures.only c.requires.node.change);
+  code = c.next_value-next.ensures.small;
+}
 
 pub set_class-requires : goal.set_class-requires
 set_class-requires g c = record {

@@ -19,11 +19,11 @@ returns-then-is_settled g c =
     let a = c.args.class.now.row.now.arena.now in
     let u = c.args.class.now.cell in
     let above = (some_of (λ (rest : Rest). MaySettle g.d u rest) c.args.some.now c.in-Some.rest c.in-Some.is
-    c.requires.1).above in
-    let agg = some_of _ c.args.class.now.less c.in-Some-less.agg c.in-Some-less.is c.requires.0.less in
-    let stays = class_stays a.width a.now g.d c.requires.0.gone.tree u c.in-Some.rest.shared c.requires.0.long
-    c.requires.0.is.below c.requires.0.is.own above (λ k v any has.
-    (slice_get-cell_of g.d.r.tuple k v).0 (ap (λ (c : Cell ℕ). slice_get c k) (sym c.requires.0.gone.tuple)
+    c.requires.rest).above in
+    let agg = some_of _ c.args.class.now.less c.in-Some-less.agg c.in-Some-less.is c.requires.known.less in
+    let stays = class_stays a.width a.now g.d c.requires.known.gone.tree u c.in-Some.rest.shared c.requires.known.long
+    c.requires.known.is.below c.requires.known.is.own above (λ k v any has.
+    (slice_get-cell_of g.d.r.tuple k v).0 (ap (λ (c : Cell ℕ). slice_get c k) (sym c.requires.known.gone.tuple)
     ∙ c.is_settled.ensures c.if-is_settled.true k v any has)) in
     record { rest = record { cells = ap (λ c. Some c) c.copy-then-is_settled.ensures.value ∙ sym stays; aggs = agg } }
 
@@ -31,13 +31,13 @@ pub returns-then-are_all_but_one : goal.returns-then-are_all_but_one
 returns-then-are_all_but_one g c =
     let u = c.args.class.now.cell in
     let all = (some_of (λ (rest : Rest). MaySettle g.d u rest) c.args.some.now c.in-Some.rest c.in-Some.is
-    c.requires.1).all in
+    c.requires.rest).all in
     let found = c.are_all_but_one.ensures c.if-are_all_but_one.true in
     let whole : Some (agg_in found.0) ≡ agg_at (eq_by_cmp nat_cmp) g.d.measures (rows_before g.d) u
-    = ap (option_map agg_in) (sym found.1) ∙ c.requires.0.whole in
+    = ap (option_map agg_in) (sym found.1) ∙ c.requires.known.whole in
     let many : found.0.count ≡ length (cov (eq_by_cmp nat_cmp) (rows_before g.d) u) = ap counted whole
     ∙ counted_at g.d.measures (rows_before g.d) u in
-    let less = count_one_less law g.d.xs g.d.r g.d.ys u c.requires.0.is.below in
+    let less = count_one_less law g.d.xs g.d.r g.d.ys u c.requires.known.is.below in
     let one = found.2 in
     record {
       rest = subst (λ (rest : Rest). IsRest g.d.measures (rows_after g.d) u (Some rest)) (sym c.copy.ensures)
