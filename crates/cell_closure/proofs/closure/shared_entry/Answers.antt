@@ -13,28 +13,34 @@ invariant_of-rest c = record {
 
 pub returns-then-all_have-clause-value : goal.returns-then-all_have-clause-value
 returns-then-all_have-clause-value c =
-    let here : is_some (row_at c.args.rows.now.table.now (get_or c.args.rows.now.numbers.now 0 zeroth).0) ≡ true
-    = c.args.rows.now.are.there 0 zeroth c.args.rows.now.are.some in
-    let code : c.code-code.result ≡ code_at c.args.rows.now.table.now c.args.dim (get_or c.args.rows.now.numbers.now 0 zeroth)
-    = code_is (row_at c.args.rows.now.table.now (get_or c.args.rows.now.numbers.now 0 zeroth).0) c.args.dim c.code-code.result here
+    let are = c.args.rows.now.are in
+    let table = c.args.rows.now.table.now in
+    let nos = c.args.rows.now.numbers.now in
+    let here : is_some (row_at table (get_or nos 0 zeroth).0) ≡ true
+    = are.there 0 zeroth are.some in
+    let code : c.code-code.result ≡ code_at table c.args.dim (get_or nos 0 zeroth)
+    = code_is (row_at table (get_or nos 0 zeroth).0) c.args.dim c.code-code.result here
     c.code-code.ensures.value in
-    let all : list_all (λ n. code_at c.args.rows.now.table.now c.args.dim n == c.code-code.result) c.args.rows.now.numbers.now ≡ true
-    = sym (rest_decides c.args.rows.now.table.now c.args.dim c.code-code.result c.args.rows.now.numbers.now c.args.rows.now.are.some code)
+    let all : list_all (λ n. code_at table c.args.dim n == c.code-code.result) nos ≡ true
+    = sym (rest_decides table c.args.dim c.code-code.result nos are.some code)
     ∙ sym c.all_have.ensures ∙ c.if-all_have.true in
-    sym (all_share c.args.rows.now.table.now c.args.rows.now.are.table c.args.rows.now.numbers.now
-    (there c.args.rows.now.table.now c.args.rows.now.numbers.now c.args.rows.now.are.there) c.args.rows.now.are.some c.args.dim c.code-code.result
+    sym (all_share table are.table nos
+    (there table nos are.there) are.some c.args.dim c.code-code.result
     c.requires all)
 
 pub returns-else-all_have-clause-value : goal.returns-else-all_have-clause-value
 returns-else-all_have-clause-value c =
-    let here : is_some (row_at c.args.rows.now.table.now (get_or c.args.rows.now.numbers.now 0 zeroth).0) ≡ true
-    = c.args.rows.now.are.there 0 zeroth c.args.rows.now.are.some in
-    let code : c.code-code.result ≡ code_at c.args.rows.now.table.now c.args.dim (get_or c.args.rows.now.numbers.now 0 zeroth)
-    = code_is (row_at c.args.rows.now.table.now (get_or c.args.rows.now.numbers.now 0 zeroth).0) c.args.dim c.code-code.result here
+    let are = c.args.rows.now.are in
+    let table = c.args.rows.now.table.now in
+    let nos = c.args.rows.now.numbers.now in
+    let here : is_some (row_at table (get_or nos 0 zeroth).0) ≡ true
+    = are.there 0 zeroth are.some in
+    let code : c.code-code.result ≡ code_at table c.args.dim (get_or nos 0 zeroth)
+    = code_is (row_at table (get_or nos 0 zeroth).0) c.args.dim c.code-code.result here
     c.code-code.ensures.value in
-    let other : list_all (λ n. code_at c.args.rows.now.table.now c.args.dim n == c.code-code.result) c.args.rows.now.numbers.now ≡ false
-    = sym (rest_decides c.args.rows.now.table.now c.args.dim c.code-code.result c.args.rows.now.numbers.now c.args.rows.now.are.some code)
+    let other : list_all (λ n. code_at table c.args.dim n == c.code-code.result) nos ≡ false
+    = sym (rest_decides table c.args.dim c.code-code.result nos are.some code)
     ∙ sym c.all_have.ensures ∙ c.if-all_have.false in
-    sym (none_share c.args.rows.now.table.now c.args.rows.now.are.table c.args.rows.now.numbers.now
-    (there c.args.rows.now.table.now c.args.rows.now.numbers.now c.args.rows.now.are.there) c.args.rows.now.are.some c.args.dim
+    sym (none_share table are.table nos
+    (there table nos are.there) are.some c.args.dim
     c.code-code.result code other)

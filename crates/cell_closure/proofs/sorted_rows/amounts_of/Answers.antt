@@ -4,6 +4,8 @@ use Rattle.cell_closure.proofs.sorted_rows.amounts_of.Goals as goal
 
 pub rows-preserved : goal.rows-preserved
 rows-preserved c =
-    line_more (λ row. row.amounts) c.args.rows.now.table.now c.args.rows.now.numbers.now c.rows.row-index c.amounts.result.now c.rows.amounts.items
+    let table = c.args.rows.now.table.now in
+    let nos = c.args.rows.now.numbers.now in
+    line_more (λ row. row.amounts) table nos c.rows.row-index c.amounts.result.now c.rows.amounts.items
     c.extend_from_slice.new.self.items c.rows-test.true (c.args.rows.now.there c.rows.row-index zeroth c.rows-test.true)
     c.amounts.ensures.value c.rows.invariant c.in_ok-extend_from_slice.ensures.items

@@ -12,18 +12,24 @@ shared_codes-codes-requires g c
 
 pub dims-preserved : goal.dims-preserved
 dims-preserved g c =
-    let lt : c.dims.dim < c.args.rows.now.table.now.dims = omega arith in
-    let s = closing_step c.args.rows.now.table.now c.dims-dim-end.ensures.valid c.args.rows.now.numbers.now
-    (there c.args.rows.now.table.now c.args.rows.now.numbers.now c.args.rows.now.are.there) c.args.rows.now.are.some c.dims.dim _ c.dims.shared
+    let are = c.args.rows.now.are in
+    let table = c.args.rows.now.table.now in
+    let nos = c.args.rows.now.numbers.now in
+    let lt : c.dims.dim < table.dims = omega arith in
+    let s = closing_step table c.dims-dim-end.ensures.valid nos
+    (there table nos are.there) are.some c.dims.dim _ c.dims.shared
     c.set.new.self lt (c.of.ensures.value ∙ c.shared_codes-codes.ensures.value c.dims.dim lt)
     (record { long = c.dims.invariant.long; done = c.dims.invariant.done }) c.set.ensures.value in
     record { long = s.long; done = s.done }
 
 pub returns-clause-closure : goal.returns-clause-closure
 returns-clause-closure g c =
-    let le : c.args.rows.now.table.now.dims ≤ c.dims.dim = omega arith in
-    is_meet c.args.rows.now.table.now c.dims-dim-end.ensures.valid c.args.rows.now.numbers.now
-    (there c.args.rows.now.table.now c.args.rows.now.numbers.now c.args.rows.now.are.there) c.args.rows.now.are.some c.dims.shared
-    (closing_end c.args.rows.now.table.now c.dims-dim-end.ensures.valid c.args.rows.now.numbers.now
-    (there c.args.rows.now.table.now c.args.rows.now.numbers.now c.args.rows.now.are.there) c.args.rows.now.are.some c.dims.dim c.dims.shared le
+    let are = c.args.rows.now.are in
+    let table = c.args.rows.now.table.now in
+    let nos = c.args.rows.now.numbers.now in
+    let le : table.dims ≤ c.dims.dim = omega arith in
+    is_meet table c.dims-dim-end.ensures.valid nos
+    (there table nos are.there) are.some c.dims.shared
+    (closing_end table c.dims-dim-end.ensures.valid nos
+    (there table nos are.there) are.some c.dims.dim c.dims.shared le
     (record { long = c.dims.invariant.long; done = c.dims.invariant.done }))

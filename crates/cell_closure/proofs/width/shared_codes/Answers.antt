@@ -26,6 +26,7 @@ rows-preserved g c =
 
 pub returns : goal.returns
 returns g c =
+    let are = c.args.rows.now.are in
     let t = c.args.rows.now.table.now in
     let nos = c.args.rows.now.numbers.now in
     let first : RowNo = get_or nos 0 zeroth in
@@ -39,13 +40,14 @@ returns g c =
     = λ j lt. c.rows.invariant.done j lt ∙ ap (shared_code t j first) whole in
     record {
       value = λ j lt. ap entry_of (all j lt)
-          ∙ shared-whole t c.args.rows.now.are.table nos (there t nos c.args.rows.now.are.there) c.args.rows.now.are.some j lt (small j lt);
+          ∙ shared-whole t are.table nos (there t nos are.there) are.some j lt (small j lt);
       kept = λ j lt. ap is_kept (all j lt)
           ∙ code-kept (list_all (λ n. code_at t j n == code_at t j first) rest) (code_at t j first) (small j lt);
     }
 
 pub returns-then-not-has_value : goal.returns-then-not-has_value
 returns-then-not-has_value g c =
+    let are = c.args.rows.now.are in
     let t = c.args.rows.now.table.now in
     let nos = c.args.rows.now.numbers.now in
     let first : RowNo = get_or nos 0 zeroth in
@@ -55,7 +57,7 @@ returns-then-not-has_value g c =
     = λ j lt. c.has_value.ensures c.if-not-has_value.true j (omega (arith, lt, c.dims.ensures.value)) in
     record {
       value = λ j lt. ap entry_of (c.rows.invariant.done j lt)
-          ∙ shared-prefix t c.args.rows.now.are.table nos (there t nos c.args.rows.now.are.there) c.args.rows.now.are.some j c.rows.row-index lt
+          ∙ shared-prefix t are.table nos (there t nos are.there) are.some j c.rows.row-index lt
           (small j lt) (sym (c.rows.invariant.done j lt) ∙ any j lt);
       kept = λ j lt. ap is_kept (c.rows.invariant.done j lt)
           ∙ code-kept (list_all (λ n. code_at t j n == code_at t j first)

@@ -4,7 +4,10 @@ use Rattle.class_builder.proofs.upper.closure_of_all.Goals as goal
 
 pub returns : goal.returns
 returns c =
-    let le : c.args.rows.now.table.now.dims ≤ c.dims.dim = omega arith in
-    closing_end c.args.rows.now.table.now c.args.rows.now.are.table c.args.rows.now.numbers.now
-    (there c.args.rows.now.table.now c.args.rows.now.numbers.now c.args.rows.now.are.there) c.args.rows.now.are.some c.dims.dim c.dims.shared le
+    let are = c.args.rows.now.are in
+    let table = c.args.rows.now.table.now in
+    let nos = c.args.rows.now.numbers.now in
+    let le : table.dims ≤ c.dims.dim = omega arith in
+    closing_end table are.table nos
+    (there table nos are.there) are.some c.dims.dim c.dims.shared le
     (record { long = c.dims.invariant.long; done = c.dims.invariant.done })

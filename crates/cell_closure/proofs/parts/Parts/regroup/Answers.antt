@@ -20,15 +20,17 @@ is_parted g c =
 
 pub invariant_of-self-2 : goal.invariant_of-self-2
 invariant_of-self-2 g c =
-    let few : length (parted (g.R.CodedRows.rows c.args.rows.now.table.now) c.args.rows.now.numbers.now c.args.dim) ≤ c.in_ok-most.most
-    = few_parts (g.R.CodedRows.rows c.args.rows.now.table.now) c.args.rows.now.numbers.now c.args.dim c.in_ok-most.most c.read_codes.new.keyed.items
+    let table = g.R.CodedRows.rows c.args.rows.now.table.now in
+    let nos = c.args.rows.now.numbers.now in
+    let few : length (parted table nos c.args.dim) ≤ c.in_ok-most.most
+    = few_parts table nos c.args.dim c.in_ok-most.most c.read_codes.new.keyed.items
     c.in_ok-most.ensures.keyed
     (all_recursion (λ k. k.code < c.in_ok-most.most) c.read_codes.new.keyed.items c.in_ok-most.ensures.below) in
     let small : c.in_ok-most.most ≤ 4000000 = c.in_ok-most.ensures.small in
     let l : length (pieces c.list_cuts.new.cuts.items c.list_rows.new.rows.items) ≡ length c.list_cuts.new.cuts.items
     = length-map c.list_cuts.new.cuts.items _ in
     let m : length (pieces c.list_cuts.new.cuts.items c.list_rows.new.rows.items)
-    ≡ length (parted (g.R.CodedRows.rows c.args.rows.now.table.now) c.args.rows.now.numbers.now c.args.dim) = ap length (is_parted g c) in
+    ≡ length (parted table nos c.args.dim) = ap length (is_parted g c) in
     let rows : length c.list_rows.new.rows.items ≡ length c.sort_by_code.new.sorter.keyed.items
     = ap length c.in_ok-list_rows.ensures ∙ length-map c.deref.result.now (λ k. k.row)
     ∙ ap length c.deref.ensures.value in
