@@ -60,6 +60,16 @@ module _ {A : Type 0} where
   change_with true row = Delete row.id
   change_with false row = Insert row
 
+-- there is a k-th change, counted from 1
+pub record HasChange (changes : List (Change Text)) (k : ℕ) : Type 0 where
+  pub first : 1 ≤ k
+  pub last : k ≤ length changes
+
+-- it is there, and is an insertion
+pub record HasInsertion (changes : List (Change Text)) (k : ℕ) : Type 0 where
+  pub there : HasChange changes k
+  pub inserts : is_deletion (change_at changes k) ≡ false
+
 -- the text in a dimension, counted from 0, of the k-th change
 abbrev pub text_at : List (Change Text) → ℕ → ℕ → Text
 text_at changes k dim = slice_index_or (row_of (change_at changes k)).tuple dim []

@@ -1,6 +1,6 @@
 // The changes of a file.
-ghost use Rattle.std.specs.Prelude.{◌≡◌, ◌≤◌, ◌<◌, [], length, false, not, count_by};
-ghost use Rattle.csv_load.specs.Batch.{AreChanges, IsBatch, amount_at, batch_of, change_at, id_of, inserted, is_deletion, row_of, text_at};
+ghost use Rattle.std.specs.Prelude.{◌≡◌, ◌<◌, [], length, not, count_by};
+ghost use Rattle.csv_load.specs.Batch.{AreChanges, HasChange, HasInsertion, IsBatch, amount_at, batch_of, change_at, id_of, inserted, is_deletion, row_of, text_at};
 
 use crate::changes::ChangeColumns;
 use std::alloc::Global;
@@ -75,8 +75,7 @@ impl RawBatch {
 
     /// Whether a change is a deletion.
     pub fn is_delete(&self, k: u32) -> bool
-        requires first { 1 ≤ k }
-        requires last { k ≤ length self.now.changes }
+        requires { HasChange self.now.changes k }
         ensures { result ≡ is_deletion (change_at self.now.changes k) }
     {
         self.changes.deletes[k as usize - 1]
@@ -84,8 +83,7 @@ impl RawBatch {
 
     /// The id of the row that is deleted or inserted.
     pub fn id(&self, k: u32) -> u64
-        requires first { 1 ≤ k }
-        requires last { k ≤ length self.now.changes }
+        requires { HasChange self.now.changes k }
         ensures { result ≡ id_of (change_at self.now.changes k) }
     {
         self.changes.ids[k as usize - 1]
@@ -93,9 +91,7 @@ impl RawBatch {
 
     /// The text of an inserted row in a dimension.
     pub fn text(&self, k: u32, dim: u8) -> &str
-        requires first { 1 ≤ k }
-        requires last { k ≤ length self.now.changes }
-        requires insertion { is_deletion (change_at self.now.changes k) ≡ false }
+        requires insertion { HasInsertion self.now.changes k }
         requires dim { dim < self.now.dims }
         ensures { result.now ≡ text_at self.now.changes k dim }
     {
@@ -105,9 +101,7 @@ impl RawBatch {
 
     /// The amounts of an inserted row, each in units of the last digit of its measure's scale.
     pub fn amounts(&self, k: u32) -> &[i64]
-        requires first { 1 ≤ k }
-        requires last { k ≤ length self.now.changes }
-        requires insertion { is_deletion (change_at self.now.changes k) ≡ false }
+        requires { HasInsertion self.now.changes k }
         ensures { result.now ≡ (row_of (change_at self.now.changes k)).amounts }
     {
         let measures = self.measures as usize;
@@ -117,9 +111,7 @@ impl RawBatch {
 
     /// The amount of an inserted row in a measure, in units of the last digit of its scale.
     pub fn amount(&self, k: u32, measure: u8) -> i64
-        requires first { 1 ≤ k }
-        requires last { k ≤ length self.now.changes }
-        requires insertion { is_deletion (change_at self.now.changes k) ≡ false }
+        requires insertion { HasInsertion self.now.changes k }
         requires measure { measure < self.now.measures }
         ensures { result ≡ amount_at self.now.changes k measure }
     {

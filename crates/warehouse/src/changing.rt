@@ -5,7 +5,7 @@ ghost use Rattle.std.specs.Prelude.{Err, IfErr, IfOk, IfSome, None, Ok, OnErr, O
 ghost use Rattle.base_table.specs.Places.{has_id, rows_of};
 ghost use Rattle.cell_core.specs.Gives.{Gives};
 ghost use Rattle.class_builder.specs.Costs.{cost_of_building};
-ghost use Rattle.csv_load.specs.Batch.{change_at, id_of, inserted, is_deletion, row_of};
+ghost use Rattle.csv_load.specs.Batch.{HasInsertion, change_at, id_of, inserted, row_of};
 ghost use Rattle.cube_defs.specs.Tree.{IsCanonical, nodes};
 ghost use Rattle.qc_arena.specs.Map as arena;
 ghost use Rattle.qc_arena.specs.Map.{is_open, is_touched, overlaid};
@@ -56,9 +56,7 @@ fn insert_table_row(
     batch: &RawBatch,
     k: u32,
 ) -> Result<(), Learn>
-    requires first { 1 ≤ k }
-    requires last { k ≤ length batch.now.changes }
-    requires inserts { is_deletion (change_at batch.now.changes k) ≡ false }
+    requires insertion { HasInsertion batch.now.changes k }
     requires cell_dims { length cell.old ≡ batch.now.dims }
     requires can { CanInsert dict.old table.old batch.now }
     requires new { has_id (rows_of table.old) (id_of (change_at batch.now.changes k)) ≡ false }

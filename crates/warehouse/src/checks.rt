@@ -1,8 +1,8 @@
 // The checks before rows are inserted.
-ghost use Rattle.std.specs.Prelude.{IfErr, IfOk, None, Ok, OnOk, [], length, nat_lt, not, true, ◌+◌, ◌-◌, ◌≡◌, ◌≤◌, take};
+ghost use Rattle.std.specs.Prelude.{IfErr, IfOk, None, Ok, OnOk, [], length, nat_lt, not, true, ◌+◌, ◌-◌, ◌≡◌, take};
 ghost use Rattle.std.specs.List.{list_any};
 ghost use Rattle.base_table.specs.Places.{rows_of};
-ghost use Rattle.csv_load.specs.Batch.{change_at, inserted};
+ghost use Rattle.csv_load.specs.Batch.{HasChange, change_at, inserted};
 ghost use Rattle.warehouse.specs.Batch.{first_number, first_twice, same_change};
 ghost use Rattle.warehouse.specs.State.{State};
 ghost use Rattle.warehouse.specs.Steps.{AreChangeIds, IsCause, is_there};
@@ -39,8 +39,7 @@ impl ChangeIds {
 
     // Whether no earlier change has the same operation and id. Stores the id for later changes.
     fn is_new(&mut self, batch: &RawBatch, k: u32) -> Result<bool, Memory>
-        requires first { 1 ≤ k }
-        requires last { k ≤ length batch.now.changes }
+        requires there { HasChange batch.now.changes k }
         requires seen { AreChangeIds self.old.gone.keys self.old.come.keys
             (take (k - 1) batch.now.changes) }
         ensures new { IfOk result

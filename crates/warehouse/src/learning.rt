@@ -1,6 +1,6 @@
 // Learns texts, row by row or dimension by dimension.
-ghost use Rattle.std.specs.Prelude.{[], Err, IfOk, IfSome, OnOk, Some, false, length, map, option_map, slice_set, take, ◌<◌, ◌≡◌, ◌≤◌};
-ghost use Rattle.csv_load.specs.Batch.{change_at, is_deletion, row_of};
+ghost use Rattle.std.specs.Prelude.{[], Err, IfOk, IfSome, OnOk, Some, length, map, option_map, slice_set, take, ◌<◌, ◌≡◌, ◌≤◌};
+ghost use Rattle.csv_load.specs.Batch.{HasInsertion, change_at, row_of};
 ghost use Rattle.value_dict.specs.TextLists.{IsDictionary, list_at};
 ghost use Rattle.warehouse.specs.Batch.{full_dim, texts_after, with_tuple};
 ghost use Rattle.warehouse.specs.Batch as batches;
@@ -35,9 +35,7 @@ pub(crate) fn learn_tuple(
     batch: &RawBatch,
     k: u32,
 ) -> Result<(), Learn>
-    requires first { 1 ≤ k }
-    requires last { k ≤ length batch.now.changes }
-    requires inserts { is_deletion (change_at batch.now.changes k) ≡ false }
+    requires insertion { HasInsertion batch.now.changes k }
     requires cell_dims { length cell.old ≡ batch.now.dims }
     requires can { CanLearn dict.old batch.now }
     ensures learnt { OnOk result

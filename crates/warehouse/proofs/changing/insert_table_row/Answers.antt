@@ -13,7 +13,7 @@ returns-in-Ok-insert-clause-inserted c =
       rows =
           row-inserted c.args.dict.now.lists now (rows_of c.args.table.now) (rows_of c.insert.new.self)
           (change_at c.args.batch.now.changes c.args.k) c.learn_tuple.new.cell c.id.result c.amounts.result.now
-          c.requires.inserts c.id.ensures c.in-Ok.ensures.learnt.texts c.amounts.ensures c.in-Ok.ensures.longer
+          c.requires.insertion.inserts c.id.ensures c.in-Ok.ensures.learnt.texts c.amounts.ensures c.in-Ok.ensures.longer
           c.requires.can.known c.in-Ok-insert.ensures.rows;
       lists = c.in-Ok.ensures.learnt.lists;
       known =

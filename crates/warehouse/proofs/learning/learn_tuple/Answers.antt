@@ -25,8 +25,8 @@ returns-in-Err-clause-full c = λ e.
     let dim = c.dims.dim in
     let tuple = tuple_of (change_at batch.changes c.args.k) in
     let wide : length tuple ≡ batch.dims
-    = insertion-wide batch.dims batch.measures (change_at batch.changes c.args.k) c.requires.inserts
-    (loaded-at batch c.args.k c.requires.can.valid c.requires.first c.requires.last) in
+    = insertion-wide batch.dims batch.measures (change_at batch.changes c.args.k) c.requires.insertion.inserts
+    (loaded-at batch c.args.k c.requires.can.valid c.requires.insertion.there.first c.requires.insertion.there.last) in
     let lt : dim < length lists
     = omega (arith, c.dims-test.true, c.dims-dim-end.ensures.value, c.requires.can.lists, c.requires.cell_dims) in
     let same : c.in-Err.refused ≡ Full = cc in
@@ -76,8 +76,8 @@ returns-clause-learnt c =
     let batch = c.args.batch.now in
     let inv = c.dims.invariant in
     let wide : length (tuple_of (change_at batch.changes c.args.k)) ≡ batch.dims
-    = insertion-wide batch.dims batch.measures (change_at batch.changes c.args.k) c.requires.inserts
-    (loaded-at batch c.args.k c.requires.can.valid c.requires.first c.requires.last) in
+    = insertion-wide batch.dims batch.measures (change_at batch.changes c.args.k) c.requires.insertion.inserts
+    (loaded-at batch c.args.k c.requires.can.valid c.requires.insertion.there.first c.requires.insertion.there.last) in
     learnt-all c.args.dict.now.lists c.dims.dict.lists (tuple_of (change_at batch.changes c.args.k)) c.dims.cell
     inv.longer.dims
     (omega (arith, wide, c.requires.can.lists)) (omega (arith, inv.cell, c.requires.can.lists, c.requires.cell_dims))

@@ -12,8 +12,8 @@ index-requires c =
     let lt : c.args.k - 1 < length inside.changes.ids.items
     = omega (
       arith,
-      c.requires.first,
-      c.requires.last,
+      c.requires.insertion.there.first,
+      c.requires.insertion.there.last,
       length-all inside.dims inside.measures inside.changes,
       ap (λ (b : Batch). length b.changes) c.self.view_is,
     ) in
@@ -31,15 +31,15 @@ returns c =
     let lt : c.args.k - 1 < length inside.changes.ids.items
     = omega (
       arith,
-      c.requires.first,
-      c.requires.last,
+      c.requires.insertion.there.first,
+      c.requires.insertion.there.last,
       length-all inside.dims inside.measures inside.changes,
       ap (λ (b : Batch). length b.changes) c.self.view_is,
     ) in
     let measure : c.args.measure < inside.measures
     = omega (arith, c.requires.measure, ap (λ (b : Batch). b.measures) c.self.view_is) in
     let is : is_deletion (change_at (all_in inside.dims inside.measures inside.changes) c.args.k) ≡ false
-    = ap (λ (b : Batch). is_deletion (change_at b.changes c.args.k)) c.self.view_is ∙ c.requires.insertion in
+    = ap (λ (b : Batch). is_deletion (change_at b.changes c.args.k)) c.self.view_is ∙ c.requires.insertion.inserts in
     let within : (c.args.k - 1) * inside.measures + c.args.measure < length inside.changes.amounts.items
     = omega (
       arith,

@@ -12,8 +12,8 @@ slice_bounds-result-end c =
     let lt : c.args.k - 1 < length inside.changes.ids.items
     = omega (
       arith,
-      c.requires.first,
-      c.requires.last,
+      c.requires.there.first,
+      c.requires.there.last,
       length-all inside.dims inside.measures inside.changes,
       ap (λ (b : Batch). length b.changes) c.self.view_is,
     ) in
@@ -30,13 +30,13 @@ returns c =
     let lt : c.args.k - 1 < length inside.changes.ids.items
     = omega (
       arith,
-      c.requires.first,
-      c.requires.last,
+      c.requires.there.first,
+      c.requires.there.last,
       length-all inside.dims inside.measures inside.changes,
       ap (λ (b : Batch). length b.changes) c.self.view_is,
     ) in
     let is : is_deletion (change_at (all_in inside.dims inside.measures inside.changes) c.args.k) ≡ false
-    = ap (λ (b : Batch). is_deletion (change_at b.changes c.args.k)) c.self.view_is ∙ c.requires.insertion in
+    = ap (λ (b : Batch). is_deletion (change_at b.changes c.args.k)) c.self.view_is ∙ c.requires.inserts in
     ap (λ (xs : List ℤ). slice_range xs start (start + inside.measures)) c.deref.ensures.value
     ∙ sym (ap (λ (row : Row Text). row.amounts)
     (row-at inside.dims inside.measures inside.changes (c.args.k - 1) (Delete 0) lt is))

@@ -9,8 +9,8 @@ get-requires c =
     let lt : c.args.k - 1 < length inside.changes.ids.items
     = omega (
       arith,
-      c.requires.first,
-      c.requires.last,
+      c.requires.insertion.there.first,
+      c.requires.insertion.there.last,
       length-all inside.dims inside.measures inside.changes,
       ap (λ (b : Batch). length b.changes) c.self.view_is,
     ) in
@@ -27,14 +27,14 @@ returns c =
     let lt : c.args.k - 1 < length inside.changes.ids.items
     = omega (
       arith,
-      c.requires.first,
-      c.requires.last,
+      c.requires.insertion.there.first,
+      c.requires.insertion.there.last,
       length-all inside.dims inside.measures inside.changes,
       ap (λ (b : Batch). length b.changes) c.self.view_is,
     ) in
     let dim : c.args.dim < inside.dims = omega (arith, c.requires.dim, ap (λ (b : Batch). b.dims) c.self.view_is) in
     let is : is_deletion (change_at (all_in inside.dims inside.measures inside.changes) c.args.k) ≡ false
-    = ap (λ (b : Batch). is_deletion (change_at b.changes c.args.k)) c.self.view_is ∙ c.requires.insertion in
+    = ap (λ (b : Batch). is_deletion (change_at b.changes c.args.k)) c.self.view_is ∙ c.requires.insertion.inserts in
     c.get.ensures
     ∙ sym (text-at inside.dims inside.measures inside.changes (c.args.k - 1) c.args.dim (Delete 0) lt is dim)
     ∙ ap (λ (b : Batch). text_at b.changes c.args.k c.args.dim) c.self.view_is

@@ -22,7 +22,7 @@ returns-in_ok-new-clause-seen c = λ e.
     let new : c.in_ok-new.new ≡ true = cc in
     let absent : list_any (nat_eq c.id-id.result) gone ≡ false = grind (arith, c.in_ok-new.ensures.added, new) in
     rw (c.in_ok-new.ensures.keys, absent, c.id-id.ensures)
-    (deletion-seen gone c.args.self.now.come.keys changes c.args.k c.requires.first c.requires.last is
+    (deletion-seen gone c.args.self.now.come.keys changes c.args.k c.requires.there.first c.requires.there.last is
     c.requires.seen)
 
 pub returns-in_ok-new-2-clause-new : goal.returns-in_ok-new-2-clause-new
@@ -42,5 +42,5 @@ returns-in_ok-new-2-clause-seen c = λ e.
     let new : c.in_ok-new-2.new ≡ true = cc in
     let absent : list_any (nat_eq c.id-id.result) come ≡ false = grind (arith, c.in_ok-new-2.ensures.added, new) in
     rw (c.in_ok-new-2.ensures.keys, absent, c.id-id.ensures)
-    (insertion-seen c.args.self.now.gone.keys come changes c.args.k c.requires.first c.requires.last is
+    (insertion-seen c.args.self.now.gone.keys come changes c.args.k c.requires.there.first c.requires.there.last is
     c.requires.seen)
