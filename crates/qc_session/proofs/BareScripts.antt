@@ -1,4 +1,4 @@
--- A script without a mark before it is no longer than it was, and has few lines.
+-- A script without a mark before it is no longer than it was, and a script has few lines.
 use Rattle.std.proofs.Common.{◌≡◌, ◌≤◌, ◌<◌, ◌^◌, ℕ, List, ap, arith, length, refl}
 use Rattle.cube_defs.specs.declared.limits.TheConstants.{MAX_FILE}
 use Rattle.qc_session.specs.Lines.{lines_of}
@@ -10,9 +10,8 @@ bare-short script bare is short =
     let same = ap (λ (bs : List ℕ). length bs) is in
     omega (arith, same, short, no_longer script)
 
-pub bare-few : (script bare : List ℕ) → bare ≡ without_mark script → length script ≤ MAX_FILE
-    → length (lines_of bare) ≤ length bare → length (lines_of bare) < 2 ^ 32
-bare-few script bare is short few =
+pub few-lines : (script : List ℕ) → length (lines_of script) ≤ length script → length script ≤ MAX_FILE
+    → length (lines_of script) < 2 ^ 32
+few-lines script lines short =
     let most : MAX_FILE ≡ 268435456 = refl in
-    let within = bare-short script bare is short in
-    omega (arith, most, within, few)
+    omega (arith, most, lines, short)

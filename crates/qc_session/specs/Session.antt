@@ -1,13 +1,15 @@
 -- How one line goes on from those before it.
-use Rattle.std.specs.Prelude.{◌≡◌, ◌≤◌, ◌⊎◌, ◌+◌, ◌++◌, ℕ, true, List, [], ◌∷◌, Option, Some, None, IfSome, Result, MatchResult}
-use Rattle.std.specs.Prelude.{vec_capacity}
+use Rattle.std.specs.Prelude.{◌≡◌, ◌≤◌, ◌<◌, ◌⊎◌, ◌+◌, ◌^◌, ◌++◌, ℕ, true, List, [], ◌∷◌, Option, Some, None, IfSome, Result, MatchResult}
+use Rattle.std.specs.Prelude.{length, vec_capacity, vec_len}
+use Rattle.cube_defs.specs.declared.limits.TheConstants.{MAX_FILE}
 use Rattle.qc_io.specs.Outside.{FileContents}
 use Rattle.warehouse.specs.State.{State}
 use Rattle.qc_session.specs.Answers.{file_of}
 use Rattle.qc_session.specs.Pins.{PinnedState, pinned_state_in}
 use Rattle.qc_session.specs.Transcript.{item, run_at, step}
 use Rattle.qc_session.specs.Flushed.{IsFlushed, TookPrefix}
-use Rattle.qc_session.specs.Runs.{AreSkipped, StoppedAt, StoppedWriting, Took, WroteAll, may_skip}
+use Rattle.qc_session.specs.Lines.{lines_of}
+use Rattle.qc_session.specs.Runs.{AreSkipped, AreUpTo, StoppedAt, StoppedWriting, Took, WroteAll, may_skip}
 use Rattle.qc_session.specs.declared.session.Session.{Session}
 use Rattle.qc_session.specs.declared.session.Stop.{Stop}
 use Rattle.qc_session.specs.declared.session.Stop.TheVariants as stops
@@ -16,6 +18,27 @@ use Rattle.qc_session.specs.declared.session.Stop.TheVariants as stops
 abbrev pub IfStop : Stop → (List ℕ → Type 0) → Type 0 → Type 0
 IfStop (stops.Read name) P Q = P name
 IfStop stops.Write P Q = Q
+
+-- a session before the first line of a script, with room for the numbers of its lines
+pub record IsReady (session : Session) (script : List ℕ) : Type 0 where
+  pub room : length (lines_of script) ≤ vec_capacity session.skipped
+  pub few : length (lines_of script) < 2 ^ 32
+  pub short : length script ≤ MAX_FILE
+  pub number : session.number ≡ 0
+  pub skipped : session.skipped.items ≡ []
+  pub pending : session.pending ≡ []
+  pub pins : session.pinned.pins ≡ []
+
+-- the next line has a number, for which there is room
+pub record HasRoom (session : Session) : Type 0 where
+  pub room : vec_len session.skipped < vec_capacity session.skipped
+  pub number : session.number + 1 < 2 ^ 32
+
+-- this line may be the next one
+pub record CanTake (session : Session) (line : List ℕ) : Type 0 where
+  pub next : HasRoom session
+  pub up_to : AreUpTo session.number session.skipped.items
+  pub short : length line ≤ MAX_FILE
 
 -- the list of skipped lines stayed, or has this line too
 abbrev pub Skips : List ℕ → ℕ → List ℕ → List ℕ → Type 0

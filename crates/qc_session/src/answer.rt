@@ -1,6 +1,7 @@
 // The answer to one line.
 ghost use Rattle.std.specs.Prelude.{Err, IfErr, IsErr, IfOk, IfSome, IsTrue, None, Ok, OnErr, OnOk, Some, length, option_map, true, ⊤, ◌≡◌, ◌≢◌, ◌≤◌, ◌+◌};
 ghost use Rattle.csv_load.specs.Files.{batch_in};
+ghost use Rattle.cube_defs.specs.declared.limits.TheConstants.{MAX_FILE};
 ghost use Rattle.qc_io.specs.Outside.{Rose, FileContents};
 ghost use Rattle.pinned_view.specs.Versions.{ShowsSame};
 ghost use Rattle.query_script.specs.Commands.{IsQuestion, wants_memory};
@@ -12,6 +13,7 @@ ghost use Rattle.warehouse.specs.State.{State};
 ghost use Rattle.qc_session.specs.Answers.{answer, answer_to, with_pins, change_answer, file_answer, file_named, file_of};
 ghost use Rattle.qc_session.specs.Costs.{IsWithin, bytes_cost, line_cost, question_cost, taken_bytes_cost};
 ghost use Rattle.qc_session.specs.Pins.{pinned_state_in};
+ghost use Rattle.qc_session.specs.Reading.{FilesStay};
 ghost use Rattle.query_answers.specs.Queries.{names_kind, query_cost, query_reply};
 ghost use Rattle.query_script.specs.Commands.{IsQuery};
 ghost use Rattle.query_script.specs.Queries as queries;
@@ -69,35 +71,43 @@ ghost use Rattle.reply_text.specs.Words.{reply_bytes};
 ghost use Rattle.cell_core.specs.Gives.{Gives};
 ghost use Rattle.warehouse.specs.Stored.{applied_in, refusal_in};
 
+// What a file is read for, and its bytes, which are no more than a file may have.
+#[derive(Clone, Copy)]
+struct FileRead<'a> {
+    kind: FileUse,
+    bytes: &'a [u8],
+    ghost short: { length bytes.now ≤ MAX_FILE },
+}
+
 // Takes the bytes of a file. A batch is applied in place, or is a dry run.
 fn take_file<L: Ledger>(
     pinned: &mut Pinned,
-    kind: FileUse,
-    bytes: &[u8],
+    file: FileRead<'_>,
     steps: &mut Steps<L>,
 ) -> Result<Applied, Refused>
-    requires { length bytes.now ≤ MAX_FILE }
     ensures gives { (then : State)
         × Gives refusal_in (applied_in then) result
-        (batches.result pinned.old.now.state (kind_in kind) bytes.now)
-        × OnOk result (pinned.new.now.state ≡ state_by_use kind pinned.old.now.state then) }
+        (batches.result pinned.old.now.state (kind_in file.entry.kind) file.entry.bytes.now)
+        × OnOk result
+        (pinned.new.now.state ≡ state_by_use file.entry.kind pinned.old.now.state then) }
     ensures pins { pinned.new.pins ≡ pinned.old.pins }
-    ensures tried { kind ≡ FileUse.Try → pinned.new ≡ pinned.old }
-    ensures numbers { OnOk result (kind ≡ FileUse.Apply
-        → LeavesNumbers pinned.old.now bytes.now pinned.new.now) }
-    ensures apart { OnOk result (kind ≡ FileUse.Apply
-        → LeavesOtherRecords pinned.old.now bytes.now pinned.new.now) }
+    ensures tried { file.entry.kind ≡ FileUse.Try → pinned.new ≡ pinned.old }
+    ensures numbers { OnOk result (file.entry.kind ≡ FileUse.Apply
+        → LeavesNumbers pinned.old.now file.entry.bytes.now pinned.new.now) }
+    ensures apart { OnOk result (file.entry.kind ≡ FileUse.Apply
+        → LeavesOtherRecords pinned.old.now file.entry.bytes.now pinned.new.now) }
     ensures steps { OnOk result
-        (IsWithin (taken_bytes_cost (kind_in kind) pinned.old.now.state bytes.now)
-        steps.old steps.new) }
-    ensures unread { kind_in kind ≡ batches.Apply
-        → IsErr (batch_in pinned.old.now.state.schema bytes.now) → steps.new ≡ steps.old }
+        (IsWithin (taken_bytes_cost (kind_in file.entry.kind) pinned.old.now.state
+        file.entry.bytes.now) steps.old steps.new) }
+    ensures unread { kind_in file.entry.kind ≡ batches.Apply
+        → IsErr (batch_in pinned.old.now.state.schema file.entry.bytes.now)
+        → steps.new ≡ steps.old }
     ensures same { OnErr result (ShowsSame pinned.old pinned.new) }
 {
-    match kind {
-        FileUse::Load => pinned.load(bytes, steps),
-        FileUse::Apply => pinned.apply(bytes, steps),
-        FileUse::Try => pinned.attempt(bytes, steps),
+    match file.kind {
+        FileUse::Load => pinned.load(file.bytes, steps),
+        FileUse::Apply => pinned.apply(file.bytes, steps),
+        FileUse::Try => pinned.attempt(file.bytes, steps),
     }
 }
 
@@ -105,27 +115,26 @@ fn take_file<L: Ledger>(
 fn file_reply<L: Ledger>(
     pinned: &mut Pinned,
     number: u32,
-    kind: FileUse,
-    bytes: &[u8],
+    file: FileRead<'_>,
     steps: &mut Steps<L>,
 ) -> Result<ShortReply, Memory>
-    requires { length bytes.now ≤ MAX_FILE }
     ensures ok { IfOk result (λ reply.
-        answer_by_use kind pinned.old.now.state
+        answer_by_use file.entry.kind pinned.old.now.state
         (change_answer pinned.old.now.state number
-        (batches.result pinned.old.now.state (kind_in kind) bytes.now))
+        (batches.result pinned.old.now.state (kind_in file.entry.kind) file.entry.bytes.now))
         ≡ record { state = pinned.new.now.state; reply = reply }) }
     ensures pins { pinned.new.pins ≡ pinned.old.pins }
-    ensures tried { kind ≡ FileUse.Try → pinned.new ≡ pinned.old }
-    ensures numbers { kind ≡ FileUse.Apply → LeavesNumbers pinned.old.now bytes.now pinned.new.now }
-    ensures apart { kind ≡ FileUse.Apply
-        → LeavesOtherRecords pinned.old.now bytes.now pinned.new.now }
+    ensures tried { file.entry.kind ≡ FileUse.Try → pinned.new ≡ pinned.old }
+    ensures numbers { file.entry.kind ≡ FileUse.Apply
+        → LeavesNumbers pinned.old.now file.entry.bytes.now pinned.new.now }
+    ensures apart { file.entry.kind ≡ FileUse.Apply
+        → LeavesOtherRecords pinned.old.now file.entry.bytes.now pinned.new.now }
     ensures steps { OnOk result
-        (IsWithin (taken_bytes_cost (kind_in kind) pinned.old.now.state bytes.now)
-        steps.old steps.new) }
+        (IsWithin (taken_bytes_cost (kind_in file.entry.kind) pinned.old.now.state
+        file.entry.bytes.now) steps.old steps.new) }
     ensures same { OnErr result (ShowsSame pinned.old pinned.new) }
 {
-    match take_file(pinned, kind, bytes, steps) {
+    match take_file(pinned, file, steps) {
         Ok(taken) => Ok(applied_reply(number, taken.records, taken.classes)),
         Err(cause) => match file_refusal(cause, pinned.now().schema()) {
             Some(words) => Ok(refused(number, words)),
@@ -150,9 +159,8 @@ fn answer_file<F: Files, L: Ledger>(
     line: FileLine,
     steps: &mut Steps<L>,
 ) -> Result<Reply, LineStop>
-    ensures later { F.faults files.old ≤ F.faults files.new }
-    ensures told { F.told files.new ≡ F.told files.old }
-    ensures steady { IsTrue (F.steady files.old) → IsTrue (F.steady files.new) }
+    ensures stay { FilesStay (F.faults files.old) (F.faults files.new) (F.told files.old)
+        (F.told files.new) (F.steady files.old) (F.steady files.new) }
     ensures same { OnErr result (ShowsSame pinned.old pinned.new) }
     ensures fault { IfErr result (λ stop. MatchLineStop stop ⊤ (λ file. (file ≡ line.name)
         × Rose (F.faults files.old) (F.faults files.new))) }
@@ -175,10 +183,16 @@ fn answer_file<F: Files, L: Ledger>(
 {
     let FileLine { kind, name } = line;
     match read_all(alloc, files, name.as_str(), MAX_FILE) {
-        Ok(bytes) => match file_reply(pinned, number, kind, &bytes, steps) {
-            Ok(reply) => Ok(Reply::Short(reply)),
-            Err(_) => Err(LineStop::Memory),
-        },
+        Ok(bytes) => {
+            let file = FileRead {
+                kind,
+                bytes: &bytes,
+            };
+            match file_reply(pinned, number, file, steps) {
+                Ok(reply) => Ok(Reply::Short(reply)),
+                Err(_) => Err(LineStop::Memory),
+            }
+        }
         Err(ReadRefused::TooLong) => Ok(Reply::Short(refused(number, size_refusal()))),
         Err(ReadRefused::Failed) => Err(LineStop::Fault(name)),
         Err(ReadRefused::Memory) => Err(LineStop::Memory),
@@ -243,9 +257,8 @@ fn answer_command<F: Files, L: Ledger>(
     steps: &mut Steps<L>,
 ) -> Result<Reply, LineStop>
     requires { IsQuestion pinned.old.now.state.schema (question_in command) }
-    ensures later { F.faults files.old ≤ F.faults files.new }
-    ensures told { F.told files.new ≡ F.told files.old }
-    ensures steady { IsTrue (F.steady files.old) → IsTrue (F.steady files.new) }
+    ensures stay { FilesStay (F.faults files.old) (F.faults files.new) (F.told files.old)
+        (F.told files.new) (F.steady files.old) (F.steady files.new) }
     ensures same { OnErr result (ShowsSame pinned.old pinned.new) }
     ensures memory { IfErr result
         (λ stop. MatchLineStop stop (wants_memory (question_in command) ≡ true) (λ file. ⊤)) }
@@ -291,9 +304,8 @@ pub fn answer_line<F: Files, L: Ledger>(
     steps: &mut Steps<L>,
 ) -> Result<Reply, LineStop>
     requires { length line.now ≤ MAX_FILE }
-    ensures later { F.faults files.old ≤ F.faults files.new }
-    ensures told { F.told files.new ≡ F.told files.old }
-    ensures steady { IsTrue (F.steady files.old) → IsTrue (F.steady files.new) }
+    ensures stay { FilesStay (F.faults files.old) (F.faults files.new) (F.told files.old)
+        (F.told files.new) (F.steady files.old) (F.steady files.new) }
     ensures same { OnErr result (ShowsSame pinned.old pinned.new) }
     ensures skips { IfErr result (λ stop. MatchLineStop stop (may_want_memory line.now ≡ true)
         (λ file. file_of pinned.old.now.state.schema line.now ≡ Some file)) }

@@ -1,5 +1,5 @@
 // Replies that are gathered until they are flushed.
-ghost use Rattle.std.specs.Prelude.{◌≡◌, ◌++◌, [], IfOk, OnErr, OnOk};
+ghost use Rattle.std.specs.Prelude.{◌≡◌, ◌++◌, [], IfOk, IsTrue, OnErr, OnOk};
 ghost use Rattle.qc_io.specs.Outside.{HasCause};
 ghost use Rattle.qc_session.specs.Flushed.{IsFlushed, TookPrefix};
 
@@ -54,6 +54,7 @@ impl Pending {
     pub fn flush_if<O: Sink>(&mut self, out: &mut O, due: bool) -> Result<(), WriteFailed>
         ensures cause { HasCause (O.faults out.old) (O.faults out.new) result }
         ensures ok { OnOk result (IsFlushed self.old self.new (O.taken out.old) (O.taken out.new)) }
+        ensures due { IsTrue due → OnOk result (self.new ≡ []) }
         ensures err { OnErr result (TookPrefix self.old (O.taken out.old) (O.taken out.new)) }
     {
         if due { self.flush(out) } else { Ok(()) }

@@ -1,11 +1,10 @@
 // A script without replies.
-ghost use Rattle.std.specs.Prelude.{◌≡◌, ◌≤◌, ◌<◌, ◌^◌, [], IsTrue, length, map, vec_capacity};
+ghost use Rattle.std.specs.Prelude.{IsTrue, map};
 ghost use Rattle.qc_io.specs.Outside.{Rose};
 ghost use Rattle.qc_session.specs.Lines.{lines_of, without_cr};
 
 use crate::session::{Session, Stop, take_lines};
 use cell_core::{Steps, Text};
-use cube_defs::MAX_FILE;
 use qc_io::{Files, SureSink};
 use std::alloc::Global;
 use std::sync::ledger::Ledger;
@@ -20,6 +19,7 @@ pub enum SilentStop {
 }
 
 ghost use Rattle.qc_session.specs.Quiet.{QuietEnds};
+ghost use Rattle.qc_session.specs.Session.{IsReady};
 
 /// Carries out the lines of a script in order, without their replies.
 pub fn run_silently<F: Files, L: Ledger>(
@@ -29,11 +29,7 @@ pub fn run_silently<F: Files, L: Ledger>(
     script: &[u8],
     steps: &mut Steps<L>,
 ) -> Result<(), SilentStop>
-    requires room { length (lines_of script.now) ≤ vec_capacity session.old.skipped }
-    requires few { length (lines_of script.now) < 2 ^ 32 }
-    requires short { length script.now ≤ MAX_FILE }
-    requires fresh { (session.old.number ≡ 0) × (session.old.skipped.items ≡ [])
-        × (session.old.pending ≡ []) × (session.old.pinned.pins ≡ []) }
+    requires { IsReady session.old script.now }
     ensures { QuietEnds (F.told files.old) (IsTrue (F.steady files.old))
         (Rose (F.faults files.old) (F.faults files.new)) (map without_cr (lines_of script.now))
         session.old session.new result }

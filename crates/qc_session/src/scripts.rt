@@ -1,6 +1,6 @@
 // The top call.
 ghost use Rattle.std.specs.Prelude.{◌≡◌, ◌≤◌, ◌<◌, ◌⊎◌, ◌↔◌, ℕ, List, [], Some, None, IfOk, IfErr, IfSome, IsNone, IsTrue, is_some, true, MatchOption, length, take};
-ghost use Rattle.cube_defs.specs.declared.limits.TheConstants.{MAX_ROWS};
+ghost use Rattle.cube_defs.specs.declared.limits.TheConstants.{MAX_FILE, MAX_ROWS};
 ghost use Rattle.qc_io.specs.Outside.{IsOpenAs, Rose, with_taken};
 ghost use Rattle.qc_session.specs.Lines.{script_lines};
 ghost use Rattle.generated_run.specs.Generated.{generated_record, generated_state};
@@ -53,7 +53,7 @@ ghost use Rattle.qc_session.specs.Ends.{GenEnds, ReturnsWarehouse, PackEnds, Pac
 ghost use Rattle.qc_session.specs.Failures.{cause_of};
 ghost use Rattle.qc_session.specs.Quiet.{IfQuietStop};
 ghost use Rattle.qc_session.specs.Ran.{Ran};
-ghost use Rattle.qc_session.specs.Reading.{FilesStay};
+ghost use Rattle.qc_session.specs.Reading.{FilesStay, IsBlankOf};
 ghost use Rattle.qc_session.specs.Session.{IfStop};
 ghost use Rattle.qc_session.specs.Words.{names_in, source_in};
 
@@ -130,17 +130,14 @@ fn initial_state<'a, L: Ledger>(
     }
 }
 
-// Reads the state at which a run starts. The steps are counted for the ledger that the blank names.
+// Reads the state at which a run starts.
 fn read_start<'a, F: Files, L: Ledger>(
     alloc: Global,
     keys: HashKeys,
     files: &mut F,
     names: InputFiles<'a>,
-    blank: Blank,
+    steps: &mut Steps<L>,
 ) -> Result<Warehouse, Failure<'a>>
-    requires name { blank.name ≡ L.name }
-    requires parts { blank.parts ≡ L.parts }
-    requires some { 0 < L.parts }
     ensures stay { FilesStay (F.faults files.old) (F.faults files.new) (F.told files.old)
         (F.told files.new) (F.steady files.old) (F.steady files.new) }
     ensures ok { IfOk result
@@ -152,18 +149,19 @@ fn read_start<'a, F: Files, L: Ledger>(
         (Rose (F.faults files.old) (F.faults files.new))
         (IsTrue (F.steady files.old)) (HasNoStart (names_in names.entry)) (cause_of f)) }
 {
-    let mut steps = Steps::<L>::start(blank);
     match read_named(alloc, files, names.first) {
-        Ok(bytes) => initial_state(alloc, keys, names.source, &bytes, &mut steps),
+        Ok(bytes) => initial_state(alloc, keys, names.source, &bytes, steps),
         Err(failure) => Err(failure),
     }
 }
 
-// What the two files hold: the state at the start, and the script.
+// What the two files hold: the state at the start, and the script, which is no longer than a file
+// may be.
 #[derive(Drop)]
 struct Loaded {
     start: Warehouse,
     script: Vec<u8>,
+    ghost short: { length script.items ≤ MAX_FILE },
 }
 
 // Reads the script after the first file, and passes the warehouse on.
@@ -178,7 +176,6 @@ fn read_script<'a, F: Files>(
         (F.told files.new) (F.steady files.old) (F.steady files.new) }
     ensures ok { IfOk result
         (λ loaded. IfSome (F.told files.old) (λ t. IsScriptOf t name.now loaded.script.items)) }
-    ensures short { IfOk result (λ loaded. length loaded.script.items ≤ MAX_FILE) }
     ensures open_file { IsOpenAs (F.told files.old) (F.cursor files.new) name.now }
     ensures err { IfErr result
         (λ f. ReadFails (F.told files.old) name.now (Rose (F.faults files.old) (F.faults files.new))
@@ -202,9 +199,7 @@ fn read_files<'a, F: Files, L: Ledger>(
     names: InputFiles<'a>,
     blank: Blank,
 ) -> Result<Loaded, Failure<'a>>
-    requires name { blank.name ≡ L.name }
-    requires parts { blank.parts ≡ L.parts }
-    requires some { 0 < L.parts }
+    requires { IsBlankOf L.name L.parts blank }
     ensures stay { FilesStay (F.faults files.old) (F.faults files.new) (F.told files.old)
         (F.told files.new) (F.steady files.old) (F.steady files.new) }
     ensures start { IfOk result
@@ -213,7 +208,6 @@ fn read_files<'a, F: Files, L: Ledger>(
     ensures script { IfOk result
         (λ loaded. IfSome (F.told files.old)
         (λ t. IsScriptOf t names.entry.script.now loaded.script.items)) }
-    ensures short { IfOk result (λ loaded. length loaded.script.items ≤ MAX_FILE) }
     ensures open_file { IsOpenAs (F.told files.old) (F.cursor files.new) names.entry.first.now
         ⊎ IsOpenAs (F.told files.old) (F.cursor files.new) names.entry.script.now }
     ensures err { IfErr result
@@ -221,7 +215,8 @@ fn read_files<'a, F: Files, L: Ledger>(
         (Rose (F.faults files.old) (F.faults files.new))
         (IsTrue (F.steady files.old)) (cause_of f)) }
 {
-    match read_start::<F, L>(alloc, keys, files, names, blank) {
+    let mut steps = Steps::<L>::start(blank);
+    match read_start(alloc, keys, files, names, &mut steps) {
         Ok(start) => read_script(alloc, files, start, names.script),
         Err(failure) => Err(failure),
     }
@@ -290,7 +285,6 @@ fn run_script<F: Files, O: Sink, E: Sink, L: Ledger>(
     loaded: Loaded,
     steps: &mut Steps<L>,
 ) -> Outcome
-    requires { length loaded.script.items ≤ MAX_FILE }
     ensures ends { ScriptEnds loaded.start.state loaded.script.items
         (files_over (F.told files.old) (F.steady files.old) (F.faults files.old)
         (F.faults files.new) (F.cursor files.old) (F.cursor files.new))
@@ -417,7 +411,6 @@ fn pack_script<F: Files, O: Sink, E: Sink, L: Ledger>(
     loaded: Loaded,
     steps: &mut Steps<L>,
 ) -> Outcome
-    requires { length loaded.script.items ≤ MAX_FILE }
     ensures ends { PackScriptEnds loaded.start.state loaded.script.items
         (files_over (F.told files.old) (F.steady files.old) (F.faults files.old)
         (F.faults files.new) (F.cursor files.old) (F.cursor files.new))
@@ -541,9 +534,7 @@ fn run_on<F: Files, O: Sink, E: Sink, L: Ledger>(
     err: &mut E,
     blank: Blank,
 ) -> Outcome
-    requires name { blank.name ≡ L.name }
-    requires parts { blank.parts ≡ L.parts }
-    requires some { 0 < L.parts }
+    requires { IsBlankOf L.name L.parts blank }
     ensures { Ran (form_of request.entry.words.now)
         (files_over (F.told files.old) (F.steady files.old) (F.faults files.old)
         (F.faults files.new) (F.cursor files.old) (F.cursor files.new))

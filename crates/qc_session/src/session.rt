@@ -1,5 +1,5 @@
 // The lines of a script, in order.
-ghost use Rattle.std.specs.Prelude.{◌≡◌, ◌≤◌, ◌<◌, ◌^◌, ◌+◌, ◌++◌, ◌∷◌, [], IfOk, IfSome, IsTrue, OnOk, false, length, map, vec_len, vec_capacity};
+ghost use Rattle.std.specs.Prelude.{◌≡◌, ◌≤◌, ◌+◌, ◌++◌, ◌∷◌, [], IfOk, IfSome, IsTrue, OnOk, false, length, map, vec_capacity};
 ghost use Rattle.qc_io.specs.Outside.{Rose};
 ghost use Rattle.reply_text.specs.Replies.{memory_text};
 ghost use Rattle.qc_session.specs.Costs.{IsWithin, item_cost, script_cost};
@@ -49,8 +49,7 @@ impl Session {
 }
 
 ghost use Rattle.qc_session.specs.Pins.{pinned_state_in};
-ghost use Rattle.qc_session.specs.Runs.{AreUpTo};
-ghost use Rattle.qc_session.specs.Session.{LineEnds, LinesEnd, Puts};
+ghost use Rattle.qc_session.specs.Session.{CanTake, HasRoom, IsReady, LineEnds, LinesEnd, Puts};
 ghost use Rattle.qc_session.specs.Transcript.{item};
 
 // Gathers a reply, and flushes all if it is not to wait.
@@ -72,8 +71,7 @@ fn put_reply<O: Sink>(
 
 // Skips a line that ran out of memory, and gathers its reply.
 fn skip_line<O: Sink>(session: &mut Session, out: &mut O, at_once: bool) -> Result<(), Stop>
-    requires room { vec_len session.old.skipped < vec_capacity session.old.skipped }
-    requires number { session.old.number + 1 < 2 ^ 32 }
+    requires { HasRoom session.old }
     ensures later { O.faults out.old ≤ O.faults out.new }
     ensures kept { (session.new.number ≡ session.old.number)
         × (session.new.pinned ≡ session.old.pinned)
@@ -100,10 +98,7 @@ fn carry_out<F: Files, O: Sink, L: Ledger>(
     line: &[u8],
     steps: &mut Steps<L>,
 ) -> Result<(), Stop>
-    requires room { vec_len session.old.skipped < vec_capacity session.old.skipped }
-    requires short { length line.now ≤ MAX_FILE }
-    requires number { session.old.number + 1 < 2 ^ 32 }
-    requires up_to { AreUpTo session.old.number session.old.skipped.items }
+    requires next { CanTake session.old line.now }
     requires taken { is_passed line.now ≡ false }
     ensures stay { FilesStay (F.faults files.old) (F.faults files.new) (F.told files.old)
         (F.told files.new) (F.steady files.old) (F.steady files.new) }
@@ -140,10 +135,7 @@ fn take_line<F: Files, O: Sink, L: Ledger>(
     line: &[u8],
     steps: &mut Steps<L>,
 ) -> Result<(), Stop>
-    requires room { vec_len session.old.skipped < vec_capacity session.old.skipped }
-    requires short { length line.now ≤ MAX_FILE }
-    requires number { session.old.number + 1 < 2 ^ 32 }
-    requires up_to { AreUpTo session.old.number session.old.skipped.items }
+    requires { CanTake session.old line.now }
     ensures stay { FilesStay (F.faults files.old) (F.faults files.new) (F.told files.old)
         (F.told files.new) (F.steady files.old) (F.steady files.new) }
     ensures later { O.faults out.old ≤ O.faults out.new }
@@ -199,14 +191,12 @@ fn reserve_buffers(alloc: Global, script: &[u8]) -> Result<(Vec<u32>, Pending), 
     Ok((skipped, pending))
 }
 
-/// A session before the first line of a script, with the memory for the number of each line.
+/// A session before the first line of a script, with the memory for the number of each line. It is
+/// ready for a script that is no longer than a file may be.
 pub fn begin(alloc: Global, warehouse: Warehouse, script: &[u8]) -> Result<Session, Memory>
     ensures state { IfOk result (λ session. session.pinned.now.state ≡ warehouse.state) }
-    ensures fresh { IfOk result (λ session. (session.number ≡ 0) × (session.skipped.items ≡ [])
-        × (session.pending ≡ []) × (session.pinned.pins ≡ [])) }
-    ensures room { IfOk result
-        (λ session. length (lines_of script.now) ≤ vec_capacity session.skipped) }
-    ensures few { length (lines_of script.now) ≤ length script.now }
+    ensures ready { IfOk result
+        (λ session. length script.now ≤ MAX_FILE → IsReady session script.now) }
 {
     match reserve_buffers(alloc, script) {
         Ok((skipped, pending)) => {
@@ -235,11 +225,7 @@ pub fn take_lines<F: Files, O: Sink, L: Ledger>(
     script: &[u8],
     steps: &mut Steps<L>,
 ) -> Result<(), Stop>
-    requires room { length (lines_of script.now) ≤ vec_capacity session.old.skipped }
-    requires few { length (lines_of script.now) < 2 ^ 32 }
-    requires short { length script.now ≤ MAX_FILE }
-    requires fresh { (session.old.number ≡ 0) × (session.old.skipped.items ≡ [])
-        × (session.old.pending ≡ []) × (session.old.pinned.pins ≡ []) }
+    requires { IsReady session.old script.now }
     ensures ends { LinesEnd (F.told files.old) (IsTrue (F.steady files.old))
         (Rose (F.faults files.old) (F.faults files.new))
         (Rose (O.faults out.old) (O.faults out.new))

@@ -22,9 +22,7 @@ pub returns-in-Load : goal.returns-in-Load
 returns-in-Load g c =
     let e = c.answer_file.ensures in
     rw c.in-Load.is (record {
-      later = e.later;
-      told = e.told;
-      steady = e.steady;
+      stay = e.stay;
       same = e.same;
       memory = memory-wanted c.answer_file.result _ refl;
       fault = fault-named c.answer_file.result c.in-Load.name
@@ -39,9 +37,7 @@ pub returns-in-Apply : goal.returns-in-Apply
 returns-in-Apply g c =
     let e = c.answer_file-in-Apply.ensures in
     rw c.in-Apply.is (record {
-      later = e.later;
-      told = e.told;
-      steady = e.steady;
+      stay = e.stay;
       same = e.same;
       memory = memory-wanted c.answer_file-in-Apply.result _ refl;
       fault = fault-named c.answer_file-in-Apply.result c.in-Apply.name
@@ -56,9 +52,7 @@ pub returns-in-Try : goal.returns-in-Try
 returns-in-Try g c =
     let e = c.answer_file-in-Try.ensures in
     rw c.in-Try.is (record {
-      later = e.later;
-      told = e.told;
-      steady = e.steady;
+      stay = e.stay;
       same = e.same;
       memory = memory-wanted c.answer_file-in-Try.result _ refl;
       fault = fault-named c.answer_file-in-Try.result c.in-Try.name

@@ -18,9 +18,7 @@ returns-in-Ok g c =
     let question = question_in c.in-Ok.command in
     let rose = Rose (g.F.Files.faults c.args.files.now) (g.F.Files.faults c.answer_command.new.files) in
     record {
-      later = e.later;
-      told = e.told;
-      steady = e.steady;
+      stay = e.stay;
       same = e.same;
       skips = line-skips c.answer_command.result (wants_memory question ≡ true) (may_want_memory c.args.line.now ≡ true)
           rose (file_named (Ok question)) _ c.in-Ok.ensures.wants (ap file_named gives) e.memory e.fault;

@@ -12,7 +12,7 @@ file_refusal-requires-clause-dim g c =
     let same : c.now.result.now.state ≡ c.args.pinned.now.now.state = ap (λ (h : Contents). h.state) c.now.ensures.value
     ∙ ap (λ (v : Versions). v.now.state) c.in-Err.ensures.same in
     let valid = subst IsState same c.schema.ensures.valid.state in
-    let within = dim-within c.args.pinned.now.now.state _ c.args.bytes.now c.in-Err.cause valid
+    let within = dim-within c.args.pinned.now.now.state _ c.args.file.bytes.now c.in-Err.cause valid
     c.in-Err.ensures.gives.1 in
     rw (c.schema.ensures.value, same) within
 
@@ -23,5 +23,5 @@ pub returns-in-Some-clause-steps : goal.returns-in-Some-clause-steps
 returns-in-Some-clause-steps g c =
     let same : c.now.result.now.state ≡ c.args.pinned.now.now.state = ap (λ (h : Contents). h.state) c.now.ensures.value
     ∙ ap (λ (v : Versions). v.now.state) c.in-Err.ensures.same in
-    unmoved-within c.args.pinned.now.now.state c.args.bytes.now (kind_in c.args.kind) (refusal_in c.in-Err.cause) _ _
+    unmoved-within c.args.pinned.now.now.state c.args.file.bytes.now (kind_in c.args.file.kind) (refusal_in c.in-Err.cause) _ _
     c.args.steps.now c.take_file.new.steps c.in-Some.ensures.texts c.in-Err.ensures.gives.1 c.in-Err.ensures.unread

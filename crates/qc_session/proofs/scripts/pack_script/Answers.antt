@@ -1,19 +1,13 @@
 use Rattle.std.proofs.Common.{◌∙◌, ap, refl}
 use Rattle.text_lines.specs.Lines.{without_mark}
 use Rattle.warehouse.specs.State.{Contents}
-use Rattle.qc_session.proofs.BareScripts.{bare-few, bare-short}
+use Rattle.qc_session.proofs.BareScripts.{bare-short}
 use Rattle.qc_session.proofs.PackEnds.{pack-led, pack-memory, pack-stopped}
 use Rattle.qc_session.proofs.scripts.pack_script.Goals as goal
 
-pub run_silently-requires-clause-few : goal.run_silently-requires-clause-few
-run_silently-requires-clause-few g c
-    = bare-few c.args.loaded.script.items _ (c.trim_byte_order_mark-script.ensures
-    ∙ ap without_mark c.deref.ensures.value) c.requires c.begin.ensures.few
-
-pub run_silently-requires-clause-short : goal.run_silently-requires-clause-short
-run_silently-requires-clause-short g c
-    = bare-short c.args.loaded.script.items _ (c.trim_byte_order_mark-script.ensures
-    ∙ ap without_mark c.deref.ensures.value) c.requires
+pub run_silently-requires : goal.run_silently-requires
+run_silently-requires g c = c.in-Ok.ensures.ready (bare-short c.args.loaded.script.items _
+    (c.trim_byte_order_mark-script.ensures ∙ ap without_mark c.deref.ensures.value) c.args.loaded.short)
 
 pub returns-in_default-clause-ends : goal.returns-in_default-clause-ends
 returns-in_default-clause-ends g c = pack-memory refl c.fail.ensures.status c.fail.ensures.skipped c.fail.ensures.said

@@ -7,12 +7,11 @@ use Rattle.qc_session.proofs.Taken.{stay-then}
 use Rattle.qc_session.proofs.Refusals.{first-not-begun, script-not-begun}
 use Rattle.qc_session.proofs.scripts.read_files.Goals as goal
 
-pub returns-in-Err : goal.returns-in-Err
-returns-in-Err g c = record {
+pub returns : goal.returns
+returns g c = record {
   stay = c.in-Err.ensures.stay;
   start = tt;
   script = tt;
-  short = tt;
   open_file = inl c.in-Err.ensures.open_file;
   err = first-not-begun (g.F.Files.told c.args.files.now) (names_in c.args.names) _ _
       (cause_of c.in-Err.failure) c.in-Err.ensures.err;
@@ -27,7 +26,6 @@ returns-in-Ok g c =
       start = IfOk-weaker c.read_script.result _ _ (λ loaded kept. rw kept c.in-Ok.ensures.ok)
           c.read_script.ensures.kept;
       script = rw stay.told at c.read_script.ensures.ok;
-      short = c.read_script.ensures.short;
       open_file = inr (rw stay.told at c.read_script.ensures.open_file);
       err = IfErr-weaker c.read_script.result _ _
           (λ f h. script-not-begun told (names_in c.args.names) _ _ _ _ _ (cause_of f) c.in-Ok.ensures.ok stay.steady

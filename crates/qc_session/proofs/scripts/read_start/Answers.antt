@@ -20,8 +20,8 @@ returns-in-Ok g c =
           (λ failure h. start-fails told names _ _ c.in-Ok.bytes.items (cause_of failure) e.ok h) none;
     }
 
-pub returns : goal.returns
-returns g c =
+pub returns-in-Err : goal.returns-in-Err
+returns-in-Err g c =
     let e = c.in-Err.ensures in
     record {
       stay = e.stay;

@@ -1,19 +1,13 @@
 use Rattle.std.proofs.Common.{◌∙◌, ap, arith, refl}
 use Rattle.text_lines.specs.Lines.{without_mark}
-use Rattle.qc_session.proofs.BareScripts.{bare-few, bare-short}
+use Rattle.qc_session.proofs.BareScripts.{bare-short}
 use Rattle.qc_session.proofs.Costs.{within-ended}
 use Rattle.qc_session.proofs.Ends.{bare-lines, script-stopped, script-unbegun, script-whole, stopped-late}
 use Rattle.qc_session.proofs.scripts.run_script.Goals as goal
 
-pub take_lines-requires-clause-few : goal.take_lines-requires-clause-few
-take_lines-requires-clause-few g c
-    = bare-few c.args.loaded.script.items _ (c.trim_byte_order_mark-script.ensures
-    ∙ ap without_mark c.deref.ensures.value) c.requires c.begin.ensures.few
-
-pub take_lines-requires-clause-short : goal.take_lines-requires-clause-short
-take_lines-requires-clause-short g c
-    = bare-short c.args.loaded.script.items _ (c.trim_byte_order_mark-script.ensures
-    ∙ ap without_mark c.deref.ensures.value) c.requires
+pub take_lines-requires : goal.take_lines-requires
+take_lines-requires g c = c.in-Ok.ensures.ready (bare-short c.args.loaded.script.items _
+    (c.trim_byte_order_mark-script.ensures ∙ ap without_mark c.deref.ensures.value) c.args.loaded.short)
 
 pub returns-in_default-clause-ends : goal.returns-in_default-clause-ends
 returns-in_default-clause-ends g c

@@ -20,9 +20,9 @@ pub returns-in-Ok-answer_line : goal.returns-in-Ok-answer_line
 returns-in-Ok-answer_line g c =
     let e = c.in-Ok-answer_line.ensures in
     record {
-      stay = record { later = e.later; told = e.told; steady = e.steady };
+      stay = e.stay;
       later = later-then _ _ _ c.flush_if.ensures.cause.later c.put_reply.ensures.later;
-      ends = ends-answered c.put_reply.result _ _ _ _ refl refl c.requires.taken c.requires.up_to e.answered
+      ends = ends-answered c.put_reply.result _ _ _ _ refl refl c.requires.taken c.requires.next.up_to e.answered
           c.in-Ok.ensures.ok (rose-later _ _ _ c.flush_if.ensures.cause.later)
           (rw c.as_bytes.ensures at c.put_reply.ensures.puts);
       steps = on-ok c.put_reply.result _ (answered-within (g.F.Files.told c.args.files.now) _ c.args.session.now.skipped.items
@@ -34,7 +34,7 @@ returns-in-Err-Memory g c =
     let e = c.in-Err-Memory.ensures in
     let skip = c.skip_line.ensures in
     record {
-      stay = record { later = e.later; told = e.told; steady = e.steady };
+      stay = e.stay;
       later = later-then _ _ _ c.flush_if.ensures.cause.later skip.later;
       ends = ends-memory c.skip_line.result _ _ _ skip.kept.0 skip.kept.2 skip.skipped c.requires.taken
           (rw c.in-Err-Memory.field-0-is at e.skips)
@@ -49,7 +49,7 @@ pub returns-in-Ok-flush : goal.returns-in-Ok-flush
 returns-in-Ok-flush g c =
     let e = c.in-Err-Fault.ensures in
     record {
-      stay = record { later = e.later; told = e.told; steady = e.steady };
+      stay = e.stay;
       later = later-then _ _ _ c.flush_if.ensures.cause.later c.flush.ensures.cause.later;
       ends = ends-unread c.in-Err-Fault.name refl refl (rw c.in-Err-Fault.field-0-is at e.fault)
           (rw c.in-Err-Fault.field-0-is at e.skips) (rw c.in-Err-Fault.field-0-is at e.untold)
@@ -61,9 +61,12 @@ pub returns-in-Err : goal.returns-in-Err
 returns-in-Err g c =
     let e = c.in-Err-Fault.ensures in
     record {
-      stay = record { later = e.later; told = e.told; steady = e.steady };
+      stay = e.stay;
       later = later-then _ _ _ c.flush_if.ensures.cause.later c.flush.ensures.cause.later;
       ends = ends-broken refl refl (rose-later _ _ _ c.flush_if.ensures.cause.later c.in-Err.ensures.cause.failed)
           (prefix-then _ _ _ _ _ c.in-Ok.ensures.ok c.in-Err.ensures.err);
       steps = tt;
     }
+
+pub skip_line-requires : goal.skip_line-requires
+skip_line-requires g c = record { room = c.requires.next.next.room; number = c.requires.next.next.number }

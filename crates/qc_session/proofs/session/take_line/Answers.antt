@@ -66,3 +66,15 @@ returns-in-None g c =
           = record { number = e.ends.number; capacity = e.ends.capacity; skips = e.ends.skips; by = e.ends.by };
       steps = rw (c.in-None.ensures.unread refl) at e.steps;
     }
+
+pub carry_out-requires-clause-next : goal.carry_out-requires-clause-next
+carry_out-requires-clause-next g c
+    = record {
+      next = record { room = c.requires.next.room; number = c.requires.next.number };
+      up_to = c.requires.up_to;
+      short
+          = c.requires.short;
+    }
+
+pub skip_line-requires : goal.skip_line-requires
+skip_line-requires g c = record { room = c.requires.next.room; number = c.requires.next.number }

@@ -18,16 +18,27 @@ lines-init g c = record {
   room = grind (arith, common_steps);
   short = grind (arith, common_steps);
   few = grind (arith, common_steps);
-  up_to = rw c.requires.fresh.1 tt;
+  up_to = rw c.requires.skipped tt;
   so_far = (
     [],
     refl,
-    sym c.requires.fresh.0,
-    rw c.requires.fresh.1 (record { rising = tt; commands = tt }),
-    rw (c.requires.fresh.1, c.requires.fresh.2, c.requires.fresh.3) (so_far-none _ _ _),
+    sym c.requires.number,
+    rw c.requires.skipped (record { rising = tt; commands = tt }),
+    rw (c.requires.skipped, c.requires.pending, c.requires.pins) (so_far-none _ _ _),
     within-none _ _ _ _,
   );
 }
+
+pub take_line-requires : goal.take_line-requires
+take_line-requires g c =
+    let inv = c.lines.invariant in
+    let split : length (lines_of c.lines.rest.now) ≡ length (lines_of c.split_line.result.1.now) + 1
+    = rw c.split_line.ensures.lines (omega arith) in
+    record {
+      next = record { room = omega (arith, inv.room, split); number = omega (arith, inv.few, split) };
+      up_to = inv.up_to;
+      short = omega (arith, inv.short, c.split_line.ensures.within, c.trim_cr.ensures.within);
+    }
 
 pub lines-preserved : goal.lines-preserved
 lines-preserved g c =
