@@ -8,7 +8,7 @@ ghost use Rattle.qc_arena.specs.Map.{with_class, with_forced};
 ghost use Rattle.std.specs.FinMap as map;
 ghost use Rattle.batch_insert.specs.Stages.{HaveEnded};
 ghost use Rattle.batch_insert.specs.Invariants.{CanRewrite, KeepsNodes};
-ghost use Rattle.batch_insert.specs.Planned.{CanEndAll, IsForcedChild, TakesMore, sum_with};
+ghost use Rattle.batch_insert.specs.Planned.{CanEndAll, CanGetForced, TakesMore, sum_with};
 
 use crate::numbers::Numbers;
 use crate::plan::{ForcedChild, NodeKind};
@@ -70,9 +70,7 @@ fn set_forced_child<L: Ledger>(
     arena: &mut QcArena,
     steps: &mut Steps<L>,
 )
-    requires node { CanRewrite row.now.tuple.now arena.old node.0 }
-    requires dim { IsForcedChild (length row.now.tuple.now) forcing }
-    requires child { IsSome (numbered numbers.now forcing.child) }
+    requires { CanGetForced row.now.tuple.now arena.old (numbered numbers.now) node.0 forcing }
     ensures keeps { KeepsNodes row.now.tuple.now arena.old arena.new }
     ensures here { (l : ℕ) × (v : ℕ) × (numbered numbers.now forcing.child ≡ Some l)
         × (slice_index_or row.now.tuple.now forcing.dim None ≡ Some v)

@@ -1,13 +1,27 @@
-use Rattle.std.proofs.Common.{arith}
+use Rattle.std.proofs.Common.{IsSome, arith, length}
+use Rattle.cube_laws.proofs.CallerLemmas.{some_of}
+use Rattle.batch_insert.specs.declared.plan.ForcedChild.{ForcedChild}
+use Rattle.batch_insert.specs.declared.plan.NodeKind.{NodeKind}
+use Rattle.batch_insert.specs.Planned.{CanEnd, IsForcedChild}
+use Rattle.batch_insert.proofs.Reading.{one_of}
 use Rattle.batch_insert.specs.Numbered.{numbered}
 use Rattle.batch_insert.proofs.Each.{one_class, one_forced}
 use Rattle.batch_insert.proofs.Keeping.{number_rewrite}
 use Rattle.batch_insert.proofs.kinds.set_kind.Goals as goal
 
-pub set_forced_child-requires-clause-node : goal.set_forced_child-requires-clause-node
-set_forced_child-requires-clause-node g c
-    = number_rewrite c.args.row.now.tuple.now c.args.arena.now (numbered c.args.numbers.now) _ _ c.requires.repair
-    c.number_of-node.ensures
+pub set_forced_child-requires : goal.set_forced_child-requires
+set_forced_child-requires g c =
+    let numbers = numbered c.args.numbers.now in
+    let can = one_of (λ (x : NodeKind). CanEnd (length c.args.row.now.tuple.now) (length c.args.row.now.amounts.now)
+    numbers x) c.args.end c.requires.ends in
+    record {
+      node = number_rewrite c.args.row.now.tuple.now c.args.arena.now numbers _ _ c.requires.repair
+          c.number_of-node.ensures;
+      dim = some_of (λ (f : ForcedChild). IsForcedChild (length c.args.row.now.tuple.now) f) c.args.end.forced
+          c.in-Some.forcing c.in-Some.is can.kind.forced;
+      child = some_of (λ (f : ForcedChild). IsSome (numbers f.child)) c.args.end.forced c.in-Some.forcing c.in-Some.is
+          can.child;
+    }
 
 pub mark-requires : goal.mark-requires
 mark-requires g c = number_rewrite c.args.row.now.tuple.now c.args.arena.now (numbered c.args.numbers.now) _ _
