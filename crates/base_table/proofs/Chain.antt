@@ -233,16 +233,6 @@ module _ {K : Type 0} (number : ℕ → K → ℕ) (multiplier : ℕ) (heads : L
             (pop_link bucket heads keys key before head a.linked);
       }
 
--- no key is linked yet
-pub unlinked : {K : Type 0} (number : ℕ → K → ℕ) (multiplier : ℕ) (heads : List ℕ) → ((j : ℕ) → get_or heads j 0 ≡ 0)
-    → AreChains number multiplier heads [] []
-unlinked number multiplier heads zero_at = record {
-  small = omega arith;
-  some = λ h. omega arith;
-  heads_are = record { last = λ j _. zero_at j };
-  linked = record { len = refl; chain = λ i d h. omega arith };
-}
-
 module _ {K : Type 0} (eq : K → K → Bool) (number : ℕ → K → ℕ) (respects : (m : ℕ) (x y : K) → eq x y ≡ true
     → number m x ≡ number m y)
     (multiplier : ℕ) (heads : List ℕ) (keys : List K) (before : List ℕ)

@@ -1,6 +1,6 @@
 -- The steps of a deletion, by the nodes that generalize the tuple, and their edges.
-use Rattle.std.proofs.Common.{◌≡◌, ◌≢◌, ◌∙◌, inl, inr, ℕ, zero, suc, ◌+◌, ◌*◌, ◌^◌, ◌<◌, ◌≤◌, Bool, true, false, ◌&&◌, Option, Some, None}
-use Rattle.std.proofs.Common.{List, [], ◌∷◌, ◌++◌, filter_map, length, map, sum, slice_get, nat_eq, nat_lt, nat_cmp, refl, sym, ap, ap₂}
+use Rattle.std.proofs.Common.{◌≡◌, ◌≢◌, ◌∙◌, inl, inr, ℕ, zero, suc, ◌+◌, ◌*◌, ◌^◌, ◌<◌, ◌≤◌, Bool, true, false, Option, Some, None}
+use Rattle.std.proofs.Common.{List, [], ◌∷◌, filter_map, length, map, sum, slice_get, nat_eq, nat_lt, nat_cmp, refl, sym, ap, ap₂}
 use Rattle.std.proofs.Common.{subst, arith, eqb-true, true≢false, ltb-true, ltb-false}
 use Rattle.std.proofs.lemmas.Bool.{and_parts, cond-true, cond-false}
 use Rattle.std.proofs.lemmas.List.Sums.{sum_by-cons}

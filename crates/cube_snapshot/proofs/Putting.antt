@@ -6,7 +6,7 @@ use Rattle.std.specs.Int.{w32}
 use Rattle.std.specs.List.{AllByRecursion, flat_map}
 use Rattle.std.proofs.lemmas.List.{append-nil, flat_map_more, take_all, take_more}
 use Rattle.std.proofs.lemmas.List.Concat.{flat_map-append}
-use Rattle.base_table.specs.Places.{IsTable, Places, row_at, rows_in, rows_of}
+use Rattle.base_table.specs.Places.{IsTable, Places, rows_in, rows_of}
 use Rattle.base_table.specs.Places as places
 use Rattle.cube_defs.specs.Rows.{Row}
 use Rattle.cell_closure.proofs.CallerLemmas.{all_recursion}

@@ -1,19 +1,18 @@
 -- A snapshot read part by part.
 use Rattle.std.proofs.Common.{◌≡◌, ◌∙◌, ℕ, List, [], ◌∷◌, ◌==◌, Option, None, Some, ap, arith, eqb-true, false, length, refl, subst, sym}
 use Rattle.std.proofs.Common.{true, true≢false}
-use Rattle.std.specs.Prelude.{Err, IfOk, Ok, Result, ⊤}
+use Rattle.std.specs.Prelude.{Err, IfOk, Ok, Result}
 use Rattle.base_table.specs.Places.{Places, rows_of}
 use Rattle.value_dict.specs.TextLists.{TextLists}
-use Rattle.std.specs.Int.{w32}
 use Rattle.std.specs.List.{All}
 use Rattle.std.specs.Option.{option_map, option_and_then}
 use Rattle.cube_defs.specs.Rows.{Row}
 use Rattle.cube_defs.specs.Text.{Text}
 use Rattle.qc_schema.specs.Schema.{IsLayout, Layout}
-use Rattle.cube_snapshot.specs.Format.{Format, then_format, number, only, sized, repeated, whole}
+use Rattle.cube_snapshot.specs.Format.{Format, then_format, only, repeated, whole}
 use Rattle.cube_snapshot.specs.Parts.{rows, texts}
 use Rattle.cube_snapshot.specs.Readers.{AreAllowed, AreWithin, MayFollowSchema, MayBeRows, Reads, Refuses, parts_made}
-use Rattle.cube_snapshot.specs.Snapshot.{Parts, Sequence, texts_and_rows, mark, parts_of, schema, schema_of, snapshot}
+use Rattle.cube_snapshot.specs.Snapshot.{Parts, Sequence, texts_and_rows, mark, parts_of, schema, snapshot}
 use Rattle.cube_snapshot.specs.declared.refused.PartRefused.{PartRefused}
 use Rattle.cube_snapshot.specs.declared.refused.PartRefused.TheVariants.{Form, Memory}
 use Rattle.cube_snapshot.proofs.FormatLaws.{bind_some, map_some}
@@ -52,10 +51,6 @@ from_after l (Some (q, b ∷ rest)) = refl
 pub no_mark : (bytes : List ℕ) → mark.get bytes ≡ None → whole snapshot bytes ≡ None
 no_mark bytes e = ap from_mark e
 
-pub no_schema : (bytes rest : List ℕ) → mark.get bytes ≡ Some (tt, rest) → schema.get rest ≡ None
-    → whole snapshot bytes ≡ None
-no_schema bytes rest e f = ap from_mark e ∙ ap from_schema f
-
 pub staged : (bytes rest more : List ℕ) (l : Layout) → mark.get bytes ≡ Some (tt, rest)
     → schema.get rest ≡ Some (l, more)
     → whole snapshot bytes ≡ option_map (with_schema l) (whole (texts_and_rows l) more)
@@ -74,21 +69,6 @@ only_some : {X : Type 0} (a : Format X) (o : Option (X × List ℕ)) (x : X) →
 only_some a None x e = cc
 only_some a (Some (y, [])) x e = let same : y ≡ x = cc in ap (λ z. Some (z, [])) same
 only_some a (Some (y, b ∷ rest)) x e = cc
-
--- the schema
-pub schema_found : (bytes text rest : List ℕ) (l : Layout) → (sized (number w32)).get bytes ≡ Some (text, rest)
-    → schema_of text ≡ Some l → schema.get bytes ≡ Some (l, rest)
-schema_found bytes text rest l e f =
-    ap (option_and_then (λ p. option_map (λ y. (y, p.1)) (schema_of p.0))) e ∙ ap (option_map (λ y. (y, rest))) f
-
-pub schema_none : (bytes : List ℕ) → (sized (number w32)).get bytes ≡ None → schema.get bytes ≡ None
-schema_none bytes e = ap (option_and_then (λ p. option_map (λ y. (y, p.1)) (schema_of p.0))) e
-
-pub refuse_schema : (bytes text rest : List ℕ) (e : PartRefused) → (sized (number w32)).get bytes ≡ Some (text, rest)
-    → Refuses (λ _. ⊤) e (schema_of text) → Refuses (λ _. ⊤) e (schema.get bytes)
-refuse_schema bytes text rest e found = refuse_by (λ _. ⊤) (λ _. ⊤) e (schema_of text) (schema.get bytes)
-    (λ z is _. let p = map_some (schema_of text) (λ y. (y, rest)) z
-    (sym (ap (option_and_then (λ p. option_map (λ y. (y, p.1)) (schema_of p.0))) found) ∙ is) in (p.0, p.1, tt))
 
 -- the texts and the rows after it
 module _ (l : Layout) (bytes : List ℕ) where
@@ -167,17 +147,6 @@ refuse_parts bytes rest more l e f g
     (λ z is within.
     let p = map_some (whole (texts_and_rows l) more) (with_schema l) z (sym (staged bytes rest more l f g) ∙ is) in
     (p.0, p.1, subst (λ (x : Parts). MayFollowSchema x.schema (x.texts, x.rows)) (sym p.2) within.1))
-
-pub refuse_snapshot : (bytes rest : List ℕ) (e : PartRefused) → mark.get bytes ≡ Some (tt, rest)
-    → Refuses (λ _. ⊤) e (schema.get rest) → Refuses AreWithin e (whole snapshot bytes)
-refuse_snapshot bytes rest e f
-    = refuse_by (λ _. ⊤) AreWithin e (schema.get rest) (whole snapshot bytes)
-    (λ z is _. found (schema.get rest) refl z is)
-  where
-    found : (o : Option (Layout × List ℕ)) → schema.get rest ≡ o → (z : Parts) → whole snapshot bytes ≡ Some z
-        → (y : Layout × List ℕ) × (schema.get rest ≡ Some y) × ⊤
-    found None g z is = let bad = sym (no_schema bytes rest f g) ∙ is in cc
-    found (Some y) g z is = (y, g, tt)
 
 pub reads_parts : (bytes rest more : List ℕ) (l : Layout) (r : Result (Layout × TextLists × Places) PartRefused)
     → mark.get bytes ≡ Some (tt, rest) → schema.get rest ≡ Some (l, more) → IsLayout l

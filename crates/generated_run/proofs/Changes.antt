@@ -20,11 +20,6 @@ abbrev pub numbers : ℕ → ℕ → List ℕ
 numbers zero id = []
 numbers (suc n) id = id ∷ numbers n (id + 1)
 
-pub among-before : (n id j : ℕ) → j < id → is_among j (numbers n id) ≡ false
-among-before zero id j h = refl
-among-before (suc n) id j h =
-    rw (ne_eqb id j (λ e. absurd (omega (arith, e, h))), among-before n (id + 1) j (omega (arith, h))) refl
-
 pub among-after : (n id j : ℕ) → id + n ≤ j → is_among j (numbers n id) ≡ false
 among-after zero id j h = refl
 among-after (suc n) id j h =

@@ -1,7 +1,7 @@
 -- How lists of images are settled, and what a pin reads meanwhile.
 use Rattle.std.proofs.Common.{◌≡◌, ℕ, zero, suc, ◌+◌, ◌*◌, ◌<◌, ◌≤◌, refl, sym, ap, ap₂, ◌∙◌, subst, false, List, [], ◌∷◌, ◌++◌, drop}
 use Rattle.std.proofs.Common.{length}
-use Rattle.std.proofs.Common.{map, get_or, arith, length-append}
+use Rattle.std.proofs.Common.{map, arith, length-append}
 use Rattle.std.proofs.lemmas.Simd.{map-map}
 use Rattle.std.specs.FinMap as finmap
 use Rattle.qc_arena.specs.Map.{ImageMap}
@@ -11,7 +11,7 @@ use Rattle.pinned_view.specs.declared.pins.Pin.{Pin}
 use Rattle.pinned_view.proofs.Joining.{merged_reads}
 use Rattle.pinned_view.proofs.Places.{least_over, read_over, without_within}
 use Rattle.pinned_view.proofs.Sizes.{later_fewer}
-use Rattle.pinned_view.proofs.StoredNumbers.{stored_merged, stored_same, stored_twice}
+use Rattle.pinned_view.proofs.StoredNumbers.{stored_merged, stored_same}
 
 pub keeps_same : (kept : List ImageMap) (pins : List Pin) → KeepsReads kept pins kept pins
 keeps_same kept pins = record {
@@ -20,16 +20,6 @@ keeps_same kept pins = record {
   within = λ w. w;
   first = omega arith;
   stores = stored_same kept;
-}
-
-pub keeps_twice : (a : List ImageMap) (p : List Pin) (b : List ImageMap) (q : List Pin) (c : List ImageMap) (r : List Pin)
-    → KeepsReads a p b q → KeepsReads b q c r → KeepsReads a p c r
-keeps_twice a p b q c r one two = record {
-  pins = two.pins ∙ one.pins;
-  trees = λ tree. two.trees tree ∙ one.trees tree;
-  within = λ w. two.within (one.within w);
-  first = omega (arith, one.first, two.first);
-  stores = stored_twice a b c one.stores two.stores;
 }
 
 within_over : (gone n m : ℕ) (pins : List Pin) → n ≡ suc m → gone ≤ m → AreWithin n pins
@@ -52,31 +42,6 @@ keeps_merged place kept kept' pins m none =
       first = least_over (suc place) (length kept) (length kept') pins (omega (arith, long, short));
       stores = stored_merged place kept kept' m;
     }
-
--- a merge leaves a list at its place
-pub merged_within : (place : ℕ) (kept kept' : List ImageMap) → IsMergedAt place kept kept' → place < length kept'
-merged_within place kept kept' m =
-    omega (
-      arith,
-      m.at,
-      ap (λ (k : List ImageMap). length k) m.now,
-      length-append m.front (m.both ∷ m.back),
-    )
-
-two_at : (kept : List ImageMap) (n : ℕ) (a b : ImageMap) → suc n < length kept → a ≡ get_or kept n a
-    → b ≡ get_or kept (suc n) b → (back : List ImageMap) × (drop n kept ≡ a ∷ b ∷ back)
-two_at [] n a b w p q = absurd (omega (arith, w))
-two_at (x ∷ []) n a b w p q = absurd (omega (arith, w))
-two_at (x ∷ y ∷ kept) zero a b w p q = (kept, ap₂ (λ (i j : ImageMap). i ∷ j ∷ kept) (sym p) (sym q))
-two_at (x ∷ y ∷ kept) (suc n) a b w p q = two_at (y ∷ kept) n a b (omega (arith, w)) p q
-
--- images that are more than twice the next
-pub settled_at : (kept : List ImageMap) (pins : List Pin) (n : ℕ) (a b : ImageMap) → suc n < length kept
-    → a ≡ get_or kept n a → b ≡ get_or kept (suc n) b → 2 * finmap.len b + 2 ≤ finmap.len a
-    → IsSettledAt n (drop n kept) pins
-settled_at kept pins n a b w p q more =
-    let two = two_at kept n a b w p q in
-    subst (λ (k : List ImageMap). IsSettledAt n k pins) (sym two.1) (λ none. more)
 
 settled_next : (kept : List ImageMap) (pins : List Pin) (n place : ℕ) → n < length kept
     → IsSettledAt place (drop n kept) pins → AreSettledFrom (suc place) (drop (suc n) kept) pins

@@ -52,12 +52,6 @@ stored_merged place kept kept' m = record {
 pub stored_same : (kept : List ImageMap) → StoresNoMore kept kept
 stored_same kept = record { images = λ q none. none; lists = omega arith }
 
-pub stored_twice : (a b c : List ImageMap) → StoresNoMore a b → StoresNoMore b c → StoresNoMore a c
-stored_twice a b c one two = record {
-  images = λ q none. two.images q (one.images q none);
-  lists = omega (arith, one.lists, two.lists);
-}
-
 -- the oldest lists go
 pub stored_drop : (n : ℕ) (kept : List ImageMap) → StoresNoMore kept (drop n kept)
 stored_drop n kept = record { images = λ q none. none_left n kept q none; lists = omega (arith, length-drop n kept) }

@@ -2,7 +2,6 @@
 use Rattle.std.proofs.Common.{◌≡◌, ◌∙◌, ℕ, Option, Some, None, refl, sym, ap}
 use Rattle.std.specs.FinMap as map
 use Rattle.std.specs.Option.{option_or}
-use Rattle.std.specs.Ordering.{nat_cmp}
 use Rattle.cube_defs.specs.Tree.{Tree}
 use Rattle.qc_arena.specs.Map.{ImageMap, Known, or_image, overlaid}
 use Rattle.qc_arena.proofs.Imaged.{get-over}
@@ -23,8 +22,3 @@ over_both older later both tree put = map_is (overlaid older (overlaid later tre
     ∙ or_twice (map.get older q) (map.get later q) (map.get tree q)
     ∙ ap (λ i. or_image i (map.get tree q)) (sym (put q))
     ∙ sym (get-over both tree q))
-
--- no images over a tree are the tree
-pub over_none : (tree : Tree ℕ) → overlaid map.empty tree ≡ tree
-over_none tree = map_is (overlaid map.empty tree) tree (λ q. get-over map.empty tree q
-    ∙ ap (λ i. or_image i (map.get tree q)) (map.get-empty nat_cmp q))

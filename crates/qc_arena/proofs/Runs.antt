@@ -27,12 +27,6 @@ run_more first end l =
     let more : end + 1 - first ≡ suc (end - first) = omega arith in
     ap (range_with_len first) more ∙ one_more first (end - first) end (omega arith)
 
-pub run_none : (first end : ℕ) → end ≤ first → run first end ≡ []
-run_none first end l = let none : end - first ≡ 0 = omega arith in ap (range_with_len first) none
-
-pub run_one : (first end : ℕ) → first + 1 ≡ end → run first end ≡ first ∷ []
-run_one first end e = let one : end - first ≡ 1 = omega arith in ap (range_with_len first) one
-
 not_lt : (a b : ℕ) → b ≤ a → is_lt (nat_cmp a b) ≡ false
 not_lt a b l = go (nat_cmp a b) refl
   where

@@ -2,9 +2,7 @@
 use Rattle.std.proofs.Common.{◌≡◌, ◌<◌, ◌≤◌, ◌+◌, ◌∙◌, ℕ, zero, suc, Option, Some, None, List, [], ◌∷◌, ◌++◌, map, take, length, get_or}
 use Rattle.std.proofs.Common.{refl, sym, ap, subst, append_assoc, append-nil, arith, add-one}
 use Rattle.std.specs.Prelude.{slice_get, option_map}
-use Rattle.std.specs.List.{All, flat_map}
-use Rattle.std.proofs.lemmas.List.Elements.{All-get_or}
-use Rattle.std.proofs.lemmas.Option.{get_or_from_slice_get, slice_get_within}
+use Rattle.std.specs.List.{flat_map}
 use Rattle.cube_defs.specs.Text.{Text}
 use Rattle.cube_defs.specs.Cell.{Cell}
 use Rattle.value_dict.specs.Decoded.{HasTexts, text_of, decoded_cell}
@@ -68,10 +66,6 @@ item-after {X} {Y} text f xs k x e = rw add-one (by xs k e)
     by (y ∷ xs) (suc k) e =
         ap (λ (z : List ℕ). text (f y) ++ z) (by xs k e)
         ∙ sym (append_assoc (text (f y)) (flat_map text (map f (take k xs))) (text (f x)))
-
--- what is true of each item
-pub item-at : {X : Type 0} (P : X → Type 0) (xs : List X) (k : ℕ) (x : X) → All P xs → slice_get xs k ≡ Some x → P x
-item-at P xs k x h e = subst P (get_or_from_slice_get xs k x x e) (All-get_or P xs k x (slice_get_within xs k x e) h)
 
 pub told-text : (texts : List Text) (code : ℕ) (text : Text) → slice_get texts code ≡ Some text
     → text_of texts code ≡ text

@@ -1,7 +1,7 @@
-use Rattle.std.proofs.Common.{◌∙◌, IsSome, Option, ap, refl, subst}
+use Rattle.std.proofs.Common.{◌∙◌, ap, refl}
 use Rattle.slab.specs.Slab as slots
 use Rattle.cube_defs.specs.Tree.{Tree}
-use Rattle.qc_arena.specs.Map.{Arena, Known}
+use Rattle.qc_arena.specs.Map.{Arena}
 use Rattle.qc_arena.specs.Inside.{begun, join, touched_in, was_of}
 use Rattle.qc_arena.proofs.ArenaSteps.{same_arena}
 use Rattle.qc_arena.proofs.SlotMaps.{slots_same, stands, there}
