@@ -1,7 +1,6 @@
--- A script without a mark before it is no longer than it was, and a script has few lines.
-use Rattle.std.proofs.Common.{◌≡◌, ◌≤◌, ◌<◌, ◌^◌, ℕ, List, ap, arith, length, refl}
+-- A script without a mark before it is no longer than it was.
+use Rattle.std.proofs.Common.{◌≡◌, ◌≤◌, ℕ, List, ap, arith, length}
 use Rattle.cube_defs.specs.declared.limits.TheConstants.{MAX_FILE}
-use Rattle.qc_session.specs.Lines.{lines_of}
 use Rattle.text_lines.specs.Lines.{without_mark}
 use Rattle.text_lines.proofs.CallerLemmas.{no_longer}
 
@@ -9,9 +8,3 @@ pub bare-short : (script bare : List ℕ) → bare ≡ without_mark script → l
 bare-short script bare is short =
     let same = ap (λ (bs : List ℕ). length bs) is in
     omega (arith, same, short, no_longer script)
-
-pub few-lines : (script : List ℕ) → length (lines_of script) ≤ length script → length script ≤ MAX_FILE
-    → length (lines_of script) < 2 ^ 32
-few-lines script lines short =
-    let most : MAX_FILE ≡ 268435456 = refl in
-    omega (arith, most, lines, short)
