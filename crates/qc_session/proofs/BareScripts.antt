@@ -1,4 +1,4 @@
--- A script without a mark before it is no longer than it was, and a script has few lines.
+-- A script without a mark before it is no longer than it was.
 use Rattle.std.proofs.Common.{◌≡◌, ◌≤◌, ℕ, List, ap, arith, length}
 use Rattle.cube_defs.specs.declared.limits.TheConstants.{MAX_FILE}
 use Rattle.text_lines.specs.Lines.{without_mark}

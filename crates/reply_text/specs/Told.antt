@@ -5,8 +5,8 @@ use Rattle.cube_defs.specs.Cell.{Cell}
 use Rattle.cube_defs.specs.Text.{Text}
 use Rattle.value_dict.specs.Decoded.{HasTexts}
 
-pub HasTexts-prop : (lists : List (List Text)) (cell : Cell ℕ) → IsProp (HasTexts lists cell)
-HasTexts-prop lists [] = Unit-prop
-HasTexts-prop [] (entry ∷ cell) = λ p q. absurd p
-HasTexts-prop (texts ∷ lists) (None ∷ cell) = HasTexts-prop lists cell
-HasTexts-prop (texts ∷ lists) (Some code ∷ cell) = ×_prop le_prop (HasTexts-prop lists cell)
+pub texts-prop : (lists : List (List Text)) (cell : Cell ℕ) → IsProp (HasTexts lists cell)
+texts-prop lists [] = Unit-prop
+texts-prop [] (entry ∷ cell) = λ p q. absurd p
+texts-prop (texts ∷ lists) (None ∷ cell) = texts-prop lists cell
+texts-prop (texts ∷ lists) (Some code ∷ cell) = ×_prop le_prop (texts-prop lists cell)

@@ -4,7 +4,7 @@ ghost use Rattle.std.specs.Prelude.{None, OnOk, decimal, length, map, slice_inde
 ghost use Rattle.reply_text.specs.Replies.{entry_text, fields_text};
 ghost use Rattle.value_dict.specs.TextLists.{list_at};
 ghost use Rattle.value_dict.specs.Decoded.{HasTexts, text_of, decoded_cell};
-ghost use Rattle.reply_text.specs.Told.{HasTexts-prop};
+ghost use Rattle.reply_text.specs.Told.{texts-prop};
 
 use crate::fields::{push_field, push_number};
 use crate::values::push_value;
@@ -16,7 +16,7 @@ use value_dict::Dict;
 pub struct CodedCell<'a> {
     pub dict: &'a Dict,
     pub cell: &'a Cell,
-    pub ghost texts: { HasTexts dict.now.lists cell.now } by { HasTexts-prop dict.now.lists cell.now },
+    ghost texts: { HasTexts dict.now.lists cell.now } by { texts-prop dict.now.lists cell.now },
 }
 
 // The entry of a cell in a dimension, with a comma before it.

@@ -9,8 +9,9 @@ text-requires-clause-dim c
     = omega (arith, told-long c.args.coded.now.dict.now.lists c.args.coded.now.cell.now c.args.coded.now.texts, c.requires)
 
 pub text-requires-clause-code : goal.text-requires-clause-code
-text-requires-clause-code c
-    = told-within c.args.coded.now.dict.now.lists c.args.coded.now.cell.now c.args.dim c.in-Is.code c.args.coded.now.texts c.in-Is.ensures.value
+text-requires-clause-code c =
+    let coded = c.args.coded.now in
+    told-within coded.dict.now.lists coded.cell.now c.args.dim c.in-Is.code coded.texts c.in-Is.ensures.value
 
 pub returns-in-Is : goal.returns-in-Is
 returns-in-Is c =
