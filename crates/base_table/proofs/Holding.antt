@@ -46,8 +46,8 @@ rows_shorter dims measures max v rows le h = record {
   distinct = subst (IsDistinct nat_eq) (sym (ids_mapped (narrowed v) (λ row. refl) rows)) h.distinct;
 }
 
-module _ (store : StoredRows) (here : List Bool) (touched : List ℕ) (room begun count_then : ℕ) (o : Bool)
-    (count max : ℕ) (h : AreTableFields store here touched room begun count_then o count max) where
+module _ {store : StoredRows} {here : List Bool} {touched : List ℕ} {room begun count_then : ℕ} {o : Bool}
+    {count max : ℕ} (h : AreTableFields store here touched room begun count_then o count max) where
   pub length-marks : length (marks_then here touched begun) ≡ begun
   length-marks = length-restored touched (take begun here) ∙ length-take-le begun here h.begun_le
 
@@ -217,7 +217,7 @@ put_was store here touched room begun count_then count max row h =
     ap (λ (l : List Bool). picked (restored touched l) (store.rows ++ row ∷ []))
     (take-append-le begun here (true ∷ []) h.begun_le)
     ∙ picked-append (marks_then here touched begun) store.rows (row ∷ [])
-    (omega (arith, length-marks store here touched room begun count_then true count max h, h.begun_le, h.places))
+    (omega (arith, length-marks h, h.begun_le, h.places))
 
 -- a row fewer
 pub take_table : (store : StoredRows) (here : List Bool) (touched : List ℕ) (room begun count_then count max k : ℕ)
@@ -308,7 +308,7 @@ pub rolled_table : (store : StoredRows) (here : List Bool) (touched : List ℕ) 
     [] room begun count_then false count_then max
 rolled_table store here touched room begun count_then o count max h =
     let len : length (marks_then here touched begun) ≡ begun
-    = length-marks store here touched room begun count_then o count max h in
+    = length-marks h in
     let rows = take begun store.rows in
     let many : length rows ≡ begun = length-take-le begun store.rows (omega (arith, h.begun_le, h.places)) in
     let shape : HasShape store.dims_then store.dims_then store.measures max = record {
@@ -358,7 +358,7 @@ wider_table store here touched room begun count_then count max code few small h 
       (take begun store.rows) count_then max
       (omega (
         arith,
-        length-marks store here touched room begun count_then true count max h,
+        length-marks h,
         length-take-le begun store.rows (omega (arith, h.begun_le, h.places)),
       )) h.was_then);
   begun_le = h.begun_le;

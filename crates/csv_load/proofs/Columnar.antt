@@ -1,5 +1,5 @@
 -- Changes that lie in columns, one after the other.
-use Rattle.std.proofs.Common.{◌≡◌, ◌<◌, ◌≤◌, ◌+◌, ◌*◌, ◌^◌, ◌∙◌, ℕ, ℤ, pos, Bool, true, false, List, [], ◌∷◌, ◌++◌, length, get_or, refl}
+use Rattle.std.proofs.Common.{◌≡◌, ◌<◌, ◌≤◌, ◌+◌, ◌-◌, ◌*◌, ◌^◌, ◌∙◌, ℕ, ℤ, pos, Bool, true, false, List, [], ◌∷◌, ◌++◌, length, get_or, refl}
 use Rattle.std.proofs.Common.{sym, ap, ap₂, arith, map, subst, cond}
 use Rattle.std.specs.Prelude.{nat_abs, slice_range, not, count_by}
 use Rattle.std.specs.List.{All, range_with_len}
@@ -10,7 +10,7 @@ use Rattle.std.proofs.lemmas.List.FromFn.{length-map-range_with_len, get_or-map-
 use Rattle.std.proofs.Math.Nat.{mul-le-mul_left}
 use Rattle.cube_defs.specs.Rows.{Row}
 use Rattle.cube_defs.specs.Text.{Text}
-use Rattle.csv_load.specs.Batch.{Adds, AreChanges, Change, Delete, Insert, IsChange, IsLoaded, change_at_place, change_with, id_of}
+use Rattle.csv_load.specs.Batch.{Adds, AreChanges, Batch, Change, Delete, HasChange, Insert, IsChange, IsLoaded, change_at_place, change_with, id_of}
 use Rattle.csv_load.specs.Batch.{inserted, is_deletion, row_at_place, row_of}
 use Rattle.csv_load.specs.declared.changes.ChangeColumns.{ChangeColumns}
 use Rattle.csv_load.proofs.Ranges.{range-append, range-after, same-below, get_or-range}
@@ -23,6 +23,18 @@ pub length-all : (dims measures : ℕ) (changes : ChangeColumns)
     → length (all_in dims measures changes) ≡ length changes.ids.items
 length-all dims measures changes
     = length-map-range_with_len (change_at_place dims measures changes) 0 (length changes.ids.items)
+
+-- the place of the k-th change is in the columns
+pub place-within : {dims measures : ℕ} {changes : ChangeColumns} {b : Batch} {k : ℕ}
+    → record { dims = dims; measures = measures; changes = all_in dims measures changes } ≡ b → HasChange b.changes k
+    → k - 1 < length changes.ids.items
+place-within {dims} {measures} {changes} is has = omega (
+  arith,
+  has.first,
+  has.last,
+  length-all dims measures changes,
+  ap (λ (b : Batch). length b.changes) is,
+)
 
 pub change-at : (dims measures : ℕ) (changes : ChangeColumns) (k : ℕ) (d : Change Text) → k < length changes.ids.items
     → get_or (all_in dims measures changes) k d ≡ change_at_place dims measures changes k

@@ -12,8 +12,11 @@ use Rattle.std.proofs.lemmas.List.Elements.{All-cons}
 use Rattle.cube_defs.specs.Text.{Text}
 use Rattle.qc_schema.specs.Schema.{IsLayout, Layout, Measure, all_different, is_name, is_name_byte, names_of, no_measure}
 use Rattle.qc_schema.proofs.CallerLemmas.{bytes-flip, push-different}
+use Rattle.csv.specs.Records.{fields_of}
 use Rattle.csv_load.proofs.Sizes.{Apart}
 use Rattle.csv_load.specs.Columns.{cons_some, fields_at, needed_names, place_from, places_in}
+use Rattle.csv_load.specs.FileRows.{needed_of}
+use Rattle.csv_load.specs.declared.row.FileRow.{FileRow}
 
 -- ---- one name
 
@@ -192,6 +195,16 @@ needed-name true layout column h = refl
 
 pub length-at : (places : List ℕ) (fields : List (List ℕ)) → length (fields_at places fields) ≡ length places
 length-at places fields = length-map places (λ place. get_or fields place [])
+
+-- a record that is as wide as the header has a field for each needed name
+pub row-within : (row : FileRow)
+    → 1 + length row.schema.now.dims + length row.schema.now.measures ≤ length (needed_of row)
+row-within row = omega (
+  arith,
+  row.are.all,
+  needed-some row.columns.now.has_op row.schema.now,
+  length-at row.columns.now.places.items (fields_of row.fields.now),
+)
 
 -- ---- the name of a column, by its place
 

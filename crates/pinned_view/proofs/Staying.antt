@@ -87,6 +87,10 @@ pub versions_moved : (pins pins' : List Pin) → map unplaced pins' ≡ map unpl
 versions_moved pins pins' same = sym (map-map version_in unplaced pins') ∙ ap (map version_in) same
     ∙ map-map version_in unplaced pins
 
+pub versions_kept : {kept kept' : List ImageMap} {pins pins' : List Pin} → KeepsReads kept pins kept' pins'
+    → map version_in pins' ≡ map version_in pins
+versions_kept {kept} {kept'} {pins} {pins'} keeps = versions_moved pins pins' keeps.pins
+
 pin_moved : (now : Contents) (kept kept' : List ImageMap) (pin pin' : Pin) → unplaced pin' ≡ unplaced pin
     → tree_at_pin kept' now.tree pin' ≡ tree_at_pin kept now.tree pin → pin'.from ≤ length kept' → IsPin now kept pin
     → IsPin now kept' pin'
@@ -121,9 +125,9 @@ all_moved_over now kept kept' (pin ∷ pins) (pin' ∷ pins') same read within a
 )
 
 -- lists that are settled
-pub pins_settled : (now : Contents) (kept kept' : List ImageMap) (pins pins' : List Pin) → KeepsReads kept pins kept' pins'
+pub pins_settled : {now : Contents} {kept kept' : List ImageMap} {pins pins' : List Pin} → KeepsReads kept pins kept' pins'
     → ArePins now kept pins → ArePins now kept' pins'
-pins_settled now kept kept' pins pins' keeps are = record {
+pins_settled {now} {kept} {kept'} {pins} {pins'} keeps are = record {
   each = all_moved_over now kept kept' pins pins' keeps.pins (keeps.trees now.tree)
       (keeps.within (within_all now kept pins are.each)) are.each;
   few = omega (

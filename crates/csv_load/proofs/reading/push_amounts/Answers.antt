@@ -2,14 +2,13 @@ use Rattle.std.proofs.Common.{◌∙◌, ◌≡◌, ◌<◌, ◌≤◌, ◌+◌,
 use Rattle.std.proofs.lemmas.Int.{to_z-of_z}
 use Rattle.std.proofs.lemmas.List.{append-nil, drop_all}
 use Rattle.std.proofs.lemmas.List.Elements.{All-from_recursion}
-use Rattle.csv.specs.Records.{fields_of}
 use Rattle.aggregates.specs.Numbers.{amount_in}
 use Rattle.cube_defs.specs.declared.limits.TheConstants.{MAX_SCALE}
 use Rattle.qc_schema.specs.Schema.{Measure, no_measure}
 use Rattle.csv_load.specs.Files.{amounts_in, amounts_of}
 use Rattle.csv_load.specs.FileRows.{needed_of}
 use Rattle.csv_load.proofs.Amounts.{abs-fits, amount-small, amounts-none, amounts-step, amounts_with, none-with, some-with}
-use Rattle.csv_load.proofs.Names.{length-at, needed-some}
+use Rattle.csv_load.proofs.Names.{needed-some, row-within}
 use Rattle.csv_load.proofs.reading.push_amounts.Goals as goal
 
 pub loop-measure-preserved : goal.loop-measure-preserved
@@ -28,13 +27,7 @@ loop-measure-preserved c =
     let lt : c.loop-measure.measure < length c.args.row.now.schema.now.measures
     = omega (arith, c.measures-measure-end.ensures) in
     let within : 1 + length c.args.row.now.schema.now.dims + c.loop-measure.measure < length fields
-    = omega (
-      arith,
-      lt,
-      c.args.row.now.are.all,
-      needed-some c.args.row.now.columns.now.has_op c.args.row.now.schema.now,
-      length-at c.args.row.now.columns.now.places.items (fields_of c.args.row.now.fields.now),
-    ) in
+    = omega (arith, lt, row-within c.args.row.now) in
     let pushed : c.push.new.self.items ≡ c.loop-measure.amounts.items ++ c.in-Some.amount ∷ []
     = c.in_ok-push.ensures.items
     ∙ ap (λ (z : ℤ). c.loop-measure.amounts.items ++ z ∷ []) (to_z-of_z w64 c.in-Some.amount fits) in
@@ -66,13 +59,7 @@ returns-in_default-clause-err c =
     let lt : c.loop-measure.measure < length c.args.row.now.schema.now.measures
     = omega (arith, c.measures-measure-end.ensures) in
     let within : 1 + length c.args.row.now.schema.now.dims + c.loop-measure.measure < length fields
-    = omega (
-      arith,
-      lt,
-      c.args.row.now.are.all,
-      needed-some c.args.row.now.columns.now.has_op c.args.row.now.schema.now,
-      length-at c.args.row.now.columns.now.places.items (fields_of c.args.row.now.fields.now),
-    ) in (
+    = omega (arith, lt, row-within c.args.row.now) in (
       refl,
       none-with c.args.amounts.now.items (amounts_of c.args.row.now.schema.now fields)
           (sym c.loop-measure.invariant

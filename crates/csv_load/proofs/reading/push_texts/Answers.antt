@@ -1,10 +1,9 @@
 use Rattle.std.proofs.Common.{◌∙◌, ◌≡◌, ◌<◌, ◌≤◌, ◌+◌, sym, ap, arith, true, false, get_or, [], length, refl}
 use Rattle.std.specs.Str.{is_utf8}
 use Rattle.std.proofs.lemmas.Str.{is_utf8-from_IsUtf8}
-use Rattle.csv.specs.Records.{fields_of}
 use Rattle.csv_load.specs.FileRows.{needed_of}
 use Rattle.csv_load.proofs.Fields.{bad-first, good-first, not-utf8, short-bad, short-good, texts-more}
-use Rattle.csv_load.proofs.Names.{length-at, needed-some}
+use Rattle.csv_load.proofs.Names.{needed-some, row-within}
 use Rattle.csv_load.proofs.Sizes.{room-more}
 use Rattle.csv_load.proofs.reading.push_texts.Goals as goal
 use Rattle.csv_load.proofs.reading.push_texts.Goals.{then-text-gt-MAX_TEXT, else-text-gt-MAX_TEXT}
@@ -14,12 +13,7 @@ returns-in_default-clause-err c =
     let fields = needed_of c.args.row.now in
     let low : 1 + c.loop-dim.dim < 1 + length c.args.row.now.schema.now.dims = omega (arith, c.dims-dim-end.ensures.count) in
     let high : 1 + length c.args.row.now.schema.now.dims ≤ length fields
-    = omega (
-      arith,
-      c.args.row.now.are.all,
-      needed-some c.args.row.now.columns.now.has_op c.args.row.now.schema.now,
-      length-at c.args.row.now.columns.now.places.items (fields_of c.args.row.now.fields.now),
-    ) in
+    = omega (arith, row-within c.args.row.now) in
     let bad : is_utf8 (get_or fields (1 + c.loop-dim.dim) []) ≡ false
     = rw c.needed-field.ensures at (not-utf8 _ c.in_default.ensures.cases.0) in (
       refl,
@@ -32,12 +26,7 @@ push-requires c =
     let fields = needed_of c.args.row.now in
     let low : 1 + c.loop-dim.dim < 1 + length c.args.row.now.schema.now.dims = omega (arith, c.dims-dim-end.ensures.count) in
     let high : 1 + length c.args.row.now.schema.now.dims ≤ length fields
-    = omega (
-      arith,
-      c.args.row.now.are.all,
-      needed-some c.args.row.now.columns.now.has_op c.args.row.now.schema.now,
-      length-at c.args.row.now.columns.now.places.items (fields_of c.args.row.now.fields.now),
-    ) in
+    = omega (arith, row-within c.args.row.now) in
     let one : c.in-Ok.text.now ≡ get_or fields (1 + c.loop-dim.dim) [] = c.in-Ok.ensures.cases.0
     ∙ c.needed-field.ensures in
     omega (
@@ -53,12 +42,7 @@ loop-dim-preserved c =
     let fields = needed_of c.args.row.now in
     let low : 1 + c.loop-dim.dim < 1 + length c.args.row.now.schema.now.dims = omega (arith, c.dims-dim-end.ensures.count) in
     let high : 1 + length c.args.row.now.schema.now.dims ≤ length fields
-    = omega (
-      arith,
-      c.args.row.now.are.all,
-      needed-some c.args.row.now.columns.now.has_op c.args.row.now.schema.now,
-      length-at c.args.row.now.columns.now.places.items (fields_of c.args.row.now.fields.now),
-    ) in
+    = omega (arith, row-within c.args.row.now) in
     let one : c.in-Ok.text.now ≡ get_or fields (1 + c.loop-dim.dim) [] = c.in-Ok.ensures.cases.0
     ∙ c.needed-field.ensures in
     let good : is_utf8 (get_or fields (1 + c.loop-dim.dim) []) ≡ true

@@ -11,8 +11,7 @@ returns-clause-numbers c =
     IfOk-weaker c.numbers_in.result _ _
     (λ nos are. numbers-view c.args.self.now m.here.items m.store.rows c.self.invariant.places
     (ap (λ (t : Places). t.places) c.self.view_is)
-    (length-view m.store m.here.items m.touched.items _ m.begun m.count_then m.is_open m.count m.max
-    c.self.invariant c.args.self.now c.self.view_is) nos.items are) c.numbers_in.ensures
+    (length-view c.self.invariant c.args.self.now c.self.view_is) nos.items are) c.numbers_in.ensures
 
 pub returns-clause-rows : goal.returns-clause-rows
 returns-clause-rows c =
@@ -20,8 +19,7 @@ returns-clause-rows c =
     IfOk-weaker c.numbers_in.result _ _
     (λ nos are. named-view c.args.self.now m.here.items m.store.rows c.self.invariant.places
     (ap (λ (t : Places). t.places) c.self.view_is)
-    (length-view m.store m.here.items m.touched.items _ m.begun m.count_then m.is_open m.count m.max
-    c.self.invariant c.args.self.now c.self.view_is) nos.items are) c.numbers_in.ensures
+    (length-view c.self.invariant c.args.self.now c.self.view_is) nos.items are) c.numbers_in.ensures
 
 pub returns-clause-there : goal.returns-clause-there
 returns-clause-there c =
@@ -29,5 +27,4 @@ returns-clause-there c =
     IfOk-weaker c.numbers_in.result _ _
     (λ nos are. there-view c.args.self.now m.here.items m.store.rows c.self.invariant.places
     (ap (λ (t : Places). t.places) c.self.view_is)
-    (length-view m.store m.here.items m.touched.items _ m.begun m.count_then m.is_open m.count m.max
-    c.self.invariant c.args.self.now c.self.view_is) nos.items are) c.numbers_in.ensures
+    (length-view c.self.invariant c.args.self.now c.self.view_is) nos.items are) c.numbers_in.ensures

@@ -5,21 +5,17 @@ use Rattle.base_table.proofs.table.Table.amount.Goals as goal
 
 pub amount-requires-clause-place : goal.amount-requires-clause-place
 amount-requires-clause-place c =
-    let m = c.self.inside in
     omega (
       arith,
-      (at-view m.store m.here.items m.touched.items _ m.begun m.count_then m.is_open m.count m.max
-          c.self.invariant c.args.self.now c.self.view_is c.args.row.0 c.requires.row).within,
+      (at-view c.self.invariant c.args.self.now c.self.view_is c.args.row.0 c.requires.row).within,
       c.self.invariant.places,
     )
 
 pub amount-requires-clause-measure : goal.amount-requires-clause-measure
 amount-requires-clause-measure c =
-    let m = c.self.inside in
     omega (
       arith,
-      measures-view m.store m.here.items m.touched.items _ m.begun m.count_then m.is_open m.count m.max
-          c.self.invariant c.args.self.now c.self.view_is,
+      measures-view c.self.invariant c.args.self.now c.self.view_is,
       c.requires.measure,
     )
 
@@ -28,7 +24,5 @@ returns c =
     let m = c.self.inside in
     let d : Row ℕ = record { id = 0; tuple = []; amounts = [] } in
     at_row c.args.self.now c.args.row.0 (get_or m.store.rows c.args.row.0 d) _
-    (row-view m.store m.here.items m.touched.items _ m.begun m.count_then m.is_open m.count m.max c.self.invariant
-    c.args.self.now c.self.view_is c.args.row.0 d
-    (at-view m.store m.here.items m.touched.items _ m.begun m.count_then m.is_open m.count m.max c.self.invariant
-    c.args.self.now c.self.view_is c.args.row.0 c.requires.row)) (grind (arith, c.amount.ensures d))
+    (row-view c.self.invariant c.args.self.now c.self.view_is c.args.row.0 d
+    (at-view c.self.invariant c.args.self.now c.self.view_is c.args.row.0 c.requires.row)) (grind (arith, c.amount.ensures d))

@@ -7,11 +7,9 @@ use Rattle.std.proofs.Common.{is_some}
 
 pub index-requires : goal.index-requires
 index-requires c =
-    let m = c.self.inside in
     omega (
       arith,
-      length-view m.store m.here.items m.touched.items _ m.begun m.count_then m.is_open m.count m.max
-          c.self.invariant c.args.self.now c.self.view_is,
+      length-view c.self.invariant c.args.self.now c.self.view_is,
     )
 
 pub returns-then-index : goal.returns-then-index
@@ -21,8 +19,7 @@ returns-then-index c =
     let lt : c.args.place < length m.here.items
     = omega (
       arith,
-      length-view m.store m.here.items m.touched.items _ m.begun m.count_then m.is_open m.count m.max
-          c.self.invariant c.args.self.now c.self.view_is,
+      length-view c.self.invariant c.args.self.now c.self.view_is,
     ) in
     record {
       some = (
@@ -42,8 +39,7 @@ returns-else-index c =
     let lt : c.args.place < length m.here.items
     = omega (
       arith,
-      length-view m.store m.here.items m.touched.items _ m.begun m.count_then m.is_open m.count m.max
-          c.self.invariant c.args.self.now c.self.view_is,
+      length-view c.self.invariant c.args.self.now c.self.view_is,
     ) in
     record {
       some = tt;

@@ -14,8 +14,7 @@ closed c =
     let m = c.self.inside in
     subst (λ (b : Bool). AreTableFields m.store m.here.items m.touched.items
     (vec_capacity m.touched) m.begun m.count_then b m.count m.max)
-    (closed-view m.store m.here.items m.touched.items _ m.begun m.count_then m.is_open m.count m.max
-    c.self.invariant c.args.self.now c.self.view_is c.requires.closed) c.self.invariant
+    (closed-view c.self.invariant c.args.self.now c.self.view_is c.requires.closed) c.self.invariant
 
 pub invariant_of-self : goal.invariant_of-self
 invariant_of-self c =

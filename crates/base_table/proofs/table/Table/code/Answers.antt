@@ -5,21 +5,17 @@ use Rattle.base_table.proofs.table.Table.code.Goals as goal
 
 pub code-requires-clause-place : goal.code-requires-clause-place
 code-requires-clause-place c =
-    let m = c.self.inside in
     omega (
       arith,
-      (at-view m.store m.here.items m.touched.items _ m.begun m.count_then m.is_open m.count m.max
-          c.self.invariant c.args.self.now c.self.view_is c.args.row.0 c.requires.row).within,
+      (at-view c.self.invariant c.args.self.now c.self.view_is c.args.row.0 c.requires.row).within,
       c.self.invariant.places,
     )
 
 pub code-requires-clause-dim : goal.code-requires-clause-dim
 code-requires-clause-dim c =
-    let m = c.self.inside in
     omega (
       arith,
-      dims-view m.store m.here.items m.touched.items _ m.begun m.count_then m.is_open m.count m.max
-          c.self.invariant c.args.self.now c.self.view_is,
+      dims-view c.self.invariant c.args.self.now c.self.view_is,
       c.requires.dim,
     )
 
@@ -29,7 +25,5 @@ returns-clause-value c =
     let d : Row ℕ = record { id = 0; tuple = []; amounts = [] } in
     at_row c.args.self.now c.args.row.0 (get_or m.store.rows c.args.row.0 d)
     (λ r. c.code.result ≡ get_or r.tuple c.args.dim 0)
-    (row-view m.store m.here.items m.touched.items _ m.begun m.count_then m.is_open m.count m.max c.self.invariant
-    c.args.self.now c.self.view_is c.args.row.0 d
-    (at-view m.store m.here.items m.touched.items _ m.begun m.count_then m.is_open m.count m.max c.self.invariant
-    c.args.self.now c.self.view_is c.args.row.0 c.requires.row)) (c.code.ensures.value d)
+    (row-view c.self.invariant c.args.self.now c.self.view_is c.args.row.0 d
+    (at-view c.self.invariant c.args.self.now c.self.view_is c.args.row.0 c.requires.row)) (c.code.ensures.value d)

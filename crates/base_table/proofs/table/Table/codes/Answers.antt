@@ -5,11 +5,9 @@ use Rattle.base_table.proofs.table.Table.codes.Goals as goal
 
 pub codes-requires : goal.codes-requires
 codes-requires c =
-    let m = c.self.inside in
     omega (
       arith,
-      (at-view m.store m.here.items m.touched.items _ m.begun m.count_then m.is_open m.count m.max
-          c.self.invariant c.args.self.now c.self.view_is c.args.row.0 c.requires.row).within,
+      (at-view c.self.invariant c.args.self.now c.self.view_is c.args.row.0 c.requires.row).within,
       c.self.invariant.places,
     )
 
@@ -18,7 +16,5 @@ returns-clause-value c =
     let m = c.self.inside in
     let d : Row ℕ = record { id = 0; tuple = []; amounts = [] } in
     at_row c.args.self.now c.args.row.0 (get_or m.store.rows c.args.row.0 d) (λ r. c.codes.result.now ≡ r.tuple)
-    (row-view m.store m.here.items m.touched.items _ m.begun m.count_then m.is_open m.count m.max c.self.invariant
-    c.args.self.now c.self.view_is c.args.row.0 d
-    (at-view m.store m.here.items m.touched.items _ m.begun m.count_then m.is_open m.count m.max c.self.invariant
-    c.args.self.now c.self.view_is c.args.row.0 c.requires.row)) (c.codes.ensures.value d)
+    (row-view c.self.invariant c.args.self.now c.self.view_is c.args.row.0 d
+    (at-view c.self.invariant c.args.self.now c.self.view_is c.args.row.0 c.requires.row)) (c.codes.ensures.value d)

@@ -34,9 +34,7 @@ invariant_of-self c =
 
 pub returns-clause-rows : goal.returns-clause-rows
 returns-clause-rows c =
-    let m = c.self.inside in
     ap (λ (s : StoredRows). rows_in (placed c.compact_if_sparse.new.here.items s.rows)) c.settle.ensures
     ∙ rows_in-placed c.compact_if_sparse.new.here.items c.compact_if_sparse.new.store.rows
     ∙ c.compact_if_sparse.ensures.rows
-    ∙ rows-view m.store m.here.items m.touched.items _ m.begun m.count_then m.is_open m.count m.max c.self.invariant
-    c.args.self.now c.self.view_is
+    ∙ rows-view c.self.invariant c.args.self.now c.self.view_is

@@ -23,8 +23,7 @@ find-requires c = record { last = c.self.invariant.is_now.last; places = c.self.
 pub delete_at-requires-clause-there : goal.delete_at-requires-clause-there
 delete_at-requires-clause-there c =
     let m = c.self.inside in
-    ap is_some (row-view m.store m.here.items m.touched.items _ m.begun m.count_then m.is_open m.count m.max
-    c.self.invariant c.args.self.now c.self.view_is c.in-Some.place no_row
+    ap is_some (row-view c.self.invariant c.args.self.now c.self.view_is c.in-Some.place no_row
     (found_at m.here.items m.store.rows c.args.id c.in-Some.place c.self.invariant.places c.in-Some.ensures.found))
 
 pub returns-in-Some : goal.returns-in-Some
@@ -32,11 +31,9 @@ returns-in-Some c =
     let m = c.self.inside in
     let f = c.in-Some.ensures.found in
     let row = get_or m.store.rows c.in-Some.place no_row in
-    let at = row-view m.store m.here.items m.touched.items _ m.begun m.count_then m.is_open m.count m.max
-    c.self.invariant c.args.self.now c.self.view_is c.in-Some.place no_row
+    let at = row-view c.self.invariant c.args.self.now c.self.view_is c.in-Some.place no_row
     (found_at m.here.items m.store.rows c.args.id c.in-Some.place c.self.invariant.places f) in
-    let seen = rows-view m.store m.here.items m.touched.items _ m.begun m.count_then m.is_open m.count m.max
-    c.self.invariant c.args.self.now c.self.view_is in
+    let seen = rows-view c.self.invariant c.args.self.now c.self.view_is in
     let new = known _ row _ at c.delete_at.ensures.table
     ∙ ap (λ (id : ℕ). let t : Places
     = record c.args.self.now { places = map (cleared id) c.args.self.now.places } in t) (f.named no_row) in
@@ -55,14 +52,12 @@ returns-in-Some c =
 
 pub returns-in-None : goal.returns-in-None
 returns-in-None c =
-    let m = c.self.inside in
     record {
       ok = tt;
       rows = tt;
       taken = tt;
       there = tt;
       missing = ap (λ (l : List (Row ℕ)). has_id l c.args.id)
-          (sym (rows-view m.store m.here.items m.touched.items _ m.begun m.count_then m.is_open m.count m.max
-          c.self.invariant c.args.self.now c.self.view_is)) ∙ c.in-None.ensures.none;
+          (sym (rows-view c.self.invariant c.args.self.now c.self.view_is)) ∙ c.in-None.ensures.none;
       err = refl;
     }

@@ -15,21 +15,17 @@ no_row = record { id = 0; tuple = []; amounts = [] }
 
 pub tuple-requires : goal.tuple-requires
 tuple-requires c =
-    let m = c.self.inside in
     omega (
       arith,
-      (at-view m.store m.here.items m.touched.items _ m.begun m.count_then m.is_open m.count m.max
-          c.self.invariant c.args.self.now c.self.view_is c.args.place c.requires.there).within,
+      (at-view c.self.invariant c.args.self.now c.self.view_is c.args.place c.requires.there).within,
       c.self.invariant.places,
     )
 
 pub amounts-requires : goal.amounts-requires
 amounts-requires c =
-    let m = c.self.inside in
     omega (
       arith,
-      (at-view m.store m.here.items m.touched.items _ m.begun m.count_then m.is_open m.count m.max
-          c.self.invariant c.args.self.now c.self.view_is c.args.place c.requires.there).within,
+      (at-view c.self.invariant c.args.self.now c.self.view_is c.args.place c.requires.there).within,
       c.self.invariant.places,
     )
 
@@ -41,34 +37,28 @@ push_touched-requires c =
       c.self.invariant.touched_le,
       c.self.invariant.room_for_all,
       some_here m.store m.here.items m.touched.items _ m.begun m.count_then m.is_open m.count m.max c.args.place
-          c.self.invariant (at-view m.store m.here.items m.touched.items _ m.begun m.count_then m.is_open m.count m.max
-          c.self.invariant c.args.self.now c.self.view_is c.args.place c.requires.there),
+          c.self.invariant (at-view c.self.invariant c.args.self.now c.self.view_is c.args.place c.requires.there),
     )
 
 pub index_mut-requires : goal.index_mut-requires
 index_mut-requires c =
-    let m = c.self.inside in
     omega (
       arith,
-      (at-view m.store m.here.items m.touched.items _ m.begun m.count_then m.is_open m.count m.max
-          c.self.invariant c.args.self.now c.self.view_is c.args.place c.requires.there).within,
+      (at-view c.self.invariant c.args.self.now c.self.view_is c.args.place c.requires.there).within,
     )
 
 pub overflow_sub-self : goal.overflow_sub-self
 overflow_sub-self c =
     let m = c.self.inside in
     some_here m.store m.here.items m.touched.items _ m.begun m.count_then m.is_open m.count m.max c.args.place
-    c.self.invariant (at-view m.store m.here.items m.touched.items _ m.begun m.count_then m.is_open m.count m.max
-    c.self.invariant c.args.self.now c.self.view_is c.args.place c.requires.there)
+    c.self.invariant (at-view c.self.invariant c.args.self.now c.self.view_is c.args.place c.requires.there)
 
 pub invariant_of-self : goal.invariant_of-self
 invariant_of-self c =
     let m = c.self.inside in
     let o : m.is_open ≡ true
-    = open-view m.store m.here.items m.touched.items _ m.begun m.count_then m.is_open m.count m.max c.self.invariant
-    c.args.self.now c.self.view_is c.requires.is_open in
-    let at = at-view m.store m.here.items m.touched.items _ m.begun m.count_then m.is_open m.count m.max
-    c.self.invariant c.args.self.now c.self.view_is c.args.place c.requires.there in
+    = open-view c.self.invariant c.args.self.now c.self.view_is c.requires.is_open in
+    let at = at-view c.self.invariant c.args.self.now c.self.view_is c.args.place c.requires.there in
     subst (λ (b : Bool). AreTableFields m.store (set m.here.items c.args.place false) c.push_touched.new.touched.items
     (vec_capacity c.push_touched.new.touched) m.begun m.count_then b (m.count - 1) m.max) (sym o)
     (subst (λ (n : ℕ). AreTableFields m.store (set m.here.items c.args.place false) c.push_touched.new.touched.items n
@@ -83,12 +73,10 @@ invariant_of-self c =
 pub returns-clause-table : goal.returns-clause-table
 returns-clause-table c =
     let m = c.self.inside in
-    let at = at-view m.store m.here.items m.touched.items _ m.begun m.count_then m.is_open m.count m.max
-    c.self.invariant c.args.self.now c.self.view_is c.args.place c.requires.there in
+    let at = at-view c.self.invariant c.args.self.now c.self.view_is c.args.place c.requires.there in
     let id = (get_or m.store.rows c.args.place no_row).id in
     at_row c.args.self.now c.args.place (get_or m.store.rows c.args.place no_row) _
-    (row-view m.store m.here.items m.touched.items _ m.begun m.count_then m.is_open m.count m.max c.self.invariant
-    c.args.self.now c.self.view_is c.args.place no_row at)
+    (row-view c.self.invariant c.args.self.now c.self.view_is c.args.place no_row at)
     (λ j. record {
       dims = ap (λ (t : Places). t.dims) c.self.view_is j;
       measures = ap (λ (t : Places). t.measures) c.self.view_is j;
@@ -107,11 +95,9 @@ returns-clause-table c =
 pub returns-clause-taken : goal.returns-clause-taken
 returns-clause-taken c =
     let m = c.self.inside in
-    let at = at-view m.store m.here.items m.touched.items _ m.begun m.count_then m.is_open m.count m.max
-    c.self.invariant c.args.self.now c.self.view_is c.args.place c.requires.there in
+    let at = at-view c.self.invariant c.args.self.now c.self.view_is c.args.place c.requires.there in
     at_row c.args.self.now c.args.place (get_or m.store.rows c.args.place no_row) _
-    (row-view m.store m.here.items m.touched.items _ m.begun m.count_then m.is_open m.count m.max c.self.invariant
-    c.args.self.now c.self.view_is c.args.place no_row at) (
+    (row-view c.self.invariant c.args.self.now c.self.view_is c.args.place no_row at) (
       c.tuple.ensures.value no_row,
       c.padded.ensures
           ∙ ap padded (c.amounts.ensures.value no_row),

@@ -5,9 +5,6 @@ use Rattle.base_table.specs.Places.{total_of, with_tuple}
 
 pub returns-clause-value : goal.returns-clause-value
 returns-clause-value c =
-    let m = c.self.inside in
     c.group_in.ensures.value
-    ∙ (λ j. total_of (measures-view m.store m.here.items m.touched.items _ m.begun m.count_then m.is_open m.count
-    m.max c.self.invariant c.args.self.now c.self.view_is j)
-    (with_tuple (rows-view m.store m.here.items m.touched.items _ m.begun m.count_then m.is_open m.count m.max
-    c.self.invariant c.args.self.now c.self.view_is j) c.args.tuple.now))
+    ∙ (λ j. total_of (measures-view c.self.invariant c.args.self.now c.self.view_is j)
+    (with_tuple (rows-view c.self.invariant c.args.self.now c.self.view_is j) c.args.tuple.now))

@@ -14,13 +14,10 @@ returns-in-Some c =
     sym (found_has m.here.items m.store.rows c.args.id c.in-Some.field-0 c.self.invariant.places
     c.in-Some.ensures.found)
     ∙ ap (λ (l : List (Row ℕ)). has_id l c.args.id)
-    (rows-view m.store m.here.items m.touched.items _ m.begun m.count_then m.is_open m.count m.max c.self.invariant
-    c.args.self.now c.self.view_is)
+    (rows-view c.self.invariant c.args.self.now c.self.view_is)
 
 pub returns-in-None : goal.returns-in-None
 returns-in-None c =
-    let m = c.self.inside in
     sym c.in-None.ensures.none
     ∙ ap (λ (l : List (Row ℕ)). has_id l c.args.id)
-    (rows-view m.store m.here.items m.touched.items _ m.begun m.count_then m.is_open m.count m.max c.self.invariant
-    c.args.self.now c.self.view_is)
+    (rows-view c.self.invariant c.args.self.now c.self.view_is)

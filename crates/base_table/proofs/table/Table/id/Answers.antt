@@ -5,11 +5,9 @@ use Rattle.base_table.proofs.table.Table.id.Goals as goal
 
 pub id-requires : goal.id-requires
 id-requires c =
-    let m = c.self.inside in
     omega (
       arith,
-      (at-view m.store m.here.items m.touched.items _ m.begun m.count_then m.is_open m.count m.max
-          c.self.invariant c.args.self.now c.self.view_is c.args.row.0 c.requires).within,
+      (at-view c.self.invariant c.args.self.now c.self.view_is c.args.row.0 c.requires).within,
       c.self.invariant.places,
     )
 
@@ -18,7 +16,5 @@ returns c =
     let m = c.self.inside in
     let d : Row ℕ = record { id = 0; tuple = []; amounts = [] } in
     at_row c.args.self.now c.args.row.0 (get_or m.store.rows c.args.row.0 d) (λ r. c.id.result ≡ r.id)
-    (row-view m.store m.here.items m.touched.items _ m.begun m.count_then m.is_open m.count m.max c.self.invariant
-    c.args.self.now c.self.view_is c.args.row.0 d
-    (at-view m.store m.here.items m.touched.items _ m.begun m.count_then m.is_open m.count m.max c.self.invariant
-    c.args.self.now c.self.view_is c.args.row.0 c.requires)) (c.id.ensures d)
+    (row-view c.self.invariant c.args.self.now c.self.view_is c.args.row.0 d
+    (at-view c.self.invariant c.args.self.now c.self.view_is c.args.row.0 c.requires)) (c.id.ensures d)

@@ -8,13 +8,10 @@ use Rattle.base_table.specs.Places.{row_of}
 
 pub put-requires-clause-room : goal.put-requires-clause-room
 put-requires-clause-room c =
-    let m = c.self.inside in
     omega (
       arith,
-      count-view m.store m.here.items m.touched.items _ m.begun m.count_then m.is_open m.count m.max
-          c.self.invariant c.args.self.now c.self.view_is,
-      max-view m.store m.here.items m.touched.items _ m.begun m.count_then m.is_open m.count m.max c.self.invariant
-          c.args.self.now c.self.view_is,
+      count-view c.self.invariant c.args.self.now c.self.view_is,
+      max-view c.self.invariant c.args.self.now c.self.view_is,
     )
 
 pub returns-then-self-clause-full : goal.returns-then-self-clause-full
@@ -24,10 +21,8 @@ returns-then-self-clause-full c =
         sym c.has.ensures ∙ c.if-has.false,
         omega (
           arith,
-          count-view m.store m.here.items m.touched.items _ m.begun m.count_then m.is_open m.count m.max
-              c.self.invariant c.args.self.now c.self.view_is,
-          max-view m.store m.here.items m.touched.items _ m.begun m.count_then m.is_open m.count m.max c.self.invariant
-              c.args.self.now c.self.view_is,
+          count-view c.self.invariant c.args.self.now c.self.view_is,
+          max-view c.self.invariant c.args.self.now c.self.view_is,
           c.self.invariant.is_now.few,
         ),
       ),
@@ -46,10 +41,8 @@ returns-in-Ok-clause-full c =
       λ e. absurd (omega (
         arith,
         e.1,
-        count-view m.store m.here.items m.touched.items _ m.begun m.count_then m.is_open m.count m.max c.self.invariant
-            c.args.self.now c.self.view_is,
-        max-view m.store m.here.items m.touched.items _ m.begun m.count_then m.is_open m.count m.max c.self.invariant
-            c.args.self.now c.self.view_is,
+        count-view c.self.invariant c.args.self.now c.self.view_is,
+        max-view c.self.invariant c.args.self.now c.self.view_is,
       )),
     )
 
@@ -60,9 +53,7 @@ returns-in-Err-clause-full c =
       λ e. absurd (omega (
         arith,
         e.1,
-        count-view m.store m.here.items m.touched.items _ m.begun m.count_then m.is_open m.count m.max c.self.invariant
-            c.args.self.now c.self.view_is,
-        max-view m.store m.here.items m.touched.items _ m.begun m.count_then m.is_open m.count m.max c.self.invariant
-            c.args.self.now c.self.view_is,
+        count-view c.self.invariant c.args.self.now c.self.view_is,
+        max-view c.self.invariant c.args.self.now c.self.view_is,
       )),
     )

@@ -17,8 +17,7 @@ opened c =
     let m = c.self.inside in
     subst (λ (b : Bool). AreTableFields m.store m.here.items m.touched.items
     (vec_capacity m.touched) m.begun m.count_then b m.count m.max)
-    (open-view m.store m.here.items m.touched.items _ m.begun m.count_then m.is_open m.count m.max c.self.invariant
-    c.args.self.now c.self.view_is c.requires.is_open) c.self.invariant
+    (open-view c.self.invariant c.args.self.now c.self.view_is c.requires.is_open) c.self.invariant
 
 here : (c : goal.After-self-1) → c.push_reserved.new.self.items ≡ c.self.inside.here.items ++ true ∷ []
 here c = c.push_reserved.ensures.items ∙ ap (λ (l : List Bool). l ++ true ∷ []) c.reserve.ensures.items
@@ -31,15 +30,12 @@ invariant_of-self-2 c =
     let put = put_table m.store m.here.items m.touched.items (vec_capacity m.touched) room m.begun m.count_then m.count
     m.max row (opened c) c.in_ok-push.ensures.row
     (ap (λ (l : List (Row ℕ)). has_id l c.args.id)
-    (rows-view m.store m.here.items m.touched.items _ m.begun m.count_then m.is_open m.count m.max c.self.invariant
-    c.args.self.now c.self.view_is) ∙ c.requires.absent)
+    (rows-view c.self.invariant c.args.self.now c.self.view_is) ∙ c.requires.absent)
     (omega (
       arith,
       c.requires.room,
-      count-view m.store m.here.items m.touched.items _ m.begun m.count_then m.is_open m.count m.max c.self.invariant
-          c.args.self.now c.self.view_is,
-      max-view m.store m.here.items m.touched.items _ m.begun m.count_then m.is_open m.count m.max c.self.invariant
-          c.args.self.now c.self.view_is,
+      count-view c.self.invariant c.args.self.now c.self.view_is,
+      max-view c.self.invariant c.args.self.now c.self.view_is,
     )) (omega arith)
     (omega (arith, c.in_ok-reserve-2.ensures.ok, c.reserve.ensures.len, c.len-2.ensures, c.len-3.ensures)) in
     subst (λ (s : StoredRows). AreTableFields s c.push_reserved.new.self.items c.reserve-2.new.self.items room m.begun
@@ -51,8 +47,7 @@ invariant_of-self-2 c =
     (sym c.reserve-2.ensures.items)
     (subst (λ (b : Bool). AreTableFields (record m.store { rows = m.store.rows ++ row ∷ [] })
     (m.here.items ++ true ∷ []) m.touched.items room m.begun m.count_then b (m.count + 1) m.max)
-    (sym (open-view m.store m.here.items m.touched.items _ m.begun m.count_then m.is_open m.count m.max
-    c.self.invariant c.args.self.now c.self.view_is c.requires.is_open)) put)))
+    (sym (open-view c.self.invariant c.args.self.now c.self.view_is c.requires.is_open)) put)))
 
 pub returns-clause-ok : goal.returns-clause-ok
 returns-clause-ok c =

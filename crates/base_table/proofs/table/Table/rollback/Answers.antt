@@ -41,9 +41,7 @@ returns-clause-back c =
     (λ j. Some (base (store c j).dims (rows_in (placed (marks c j) (store c j).rows))))
     ∙ ap (λ (l : List (Row ℕ)). Some (base m.store.dims_then l))
     (rows_in-placed kept (map narrow (take m.begun m.store.rows)) ∙ picked-map narrow kept (take m.begun m.store.rows)
-    ∙ ap (map narrow) (then_rows m.store m.here.items m.touched.items _ m.begun m.count_then m.is_open m.count m.max
-    c.self.invariant))
+    ∙ ap (map narrow) (then_rows c.self.invariant))
     ∙ ap (λ (b : Bool). if b then Some (base_then m.store (picked kept m.store.rows)) else None)
-    (sym (open-view m.store m.here.items m.touched.items _ m.begun m.count_then m.is_open m.count m.max
-    c.self.invariant c.args.self.now c.self.view_is c.requires.is_open))
+    (sym (open-view c.self.invariant c.args.self.now c.self.view_is c.requires.is_open))
     ∙ ap (λ (t : Places). t.was) c.self.view_is

@@ -12,14 +12,12 @@ pub invariant_of-self : goal.invariant_of-self
 invariant_of-self c =
     let m = c.self.inside in
     let o : m.is_open ≡ true
-    = open-view m.store m.here.items m.touched.items _ m.begun m.count_then m.is_open m.count m.max c.self.invariant
-    c.args.self.now c.self.view_is c.requires.is_open in
+    = open-view c.self.invariant c.args.self.now c.self.view_is c.requires.is_open in
     let few : m.store.dims < 16
     = omega (
       arith,
       c.requires.few,
-      dims-view m.store m.here.items m.touched.items _ m.begun m.count_then m.is_open m.count m.max c.self.invariant
-          c.args.self.now c.self.view_is,
+      dims-view c.self.invariant c.args.self.now c.self.view_is,
     ) in
     subst (λ (s : StoredRows). AreTableFields s m.here.items m.touched.items
     (vec_capacity m.touched) m.begun m.count_then m.is_open m.count m.max) (sym c.widen.ensures)

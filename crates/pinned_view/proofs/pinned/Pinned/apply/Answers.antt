@@ -9,7 +9,7 @@ use Rattle.warehouse.specs.Stored.{applied_in, refusal_in}
 use Rattle.pinned_view.specs.Pins.{ArePins, version_in}
 use Rattle.pinned_view.specs.Stored.{StoresNoOtherNodes}
 use Rattle.pinned_view.specs.Versions.{Versions}
-use Rattle.pinned_view.proofs.Staying.{after_change, pins_settled, versions_moved}
+use Rattle.pinned_view.proofs.Staying.{after_change, pins_settled, versions_kept}
 use Rattle.pinned_view.proofs.StoredFor.{few_lists, same_contents, shows_same, stores_touched}
 use Rattle.pinned_view.proofs.pinned.Pinned.apply.Given as Given
 use Rattle.pinned_view.proofs.pinned.Pinned.apply.Goals as goal
@@ -17,8 +17,7 @@ use Rattle.pinned_view.proofs.pinned.Pinned.apply.Goals as goal
 pub invariant_of-self : goal.invariant_of-self
 invariant_of-self g c =
     let m = c.self.inside in (
-      pins_settled m.warehouse m.kept.items c.settle.new.kept.items m.pins.items c.settle.new.pins.items
-          c.settle.ensures.keeps c.self.invariant.0,
+      pins_settled c.settle.ensures.keeps c.self.invariant.0,
       omega (arith, c.settle.ensures.capacity, c.self.invariant.1),
     )
 
@@ -33,8 +32,7 @@ pub invariant_of-self-in-Err-apply : goal.invariant_of-self-in-Err-apply
 invariant_of-self-in-Err-apply g c =
     let m = c.self.inside in (
       subst (λ (n : Contents). ArePins n c.settle.new.kept.items c.settle.new.pins.items) (sym (same_held g c))
-          (pins_settled m.warehouse m.kept.items c.settle.new.kept.items m.pins.items c.settle.new.pins.items
-          c.settle.ensures.keeps c.self.invariant.0),
+          (pins_settled c.settle.ensures.keeps c.self.invariant.0),
       omega (arith, c.settle.ensures.capacity, c.self.invariant.1),
     )
 
@@ -51,8 +49,7 @@ invariant_of-self-in-Ok-apply g c =
           (ap (λ (s : State). s.schema) (taken-of was Apply file applied c.in-Ok-apply.ensures.gives).1)
           (λ rows tree has. tree-after was now rows tree Apply file applied has c.in-Ok-apply.ensures.gives refl
           c.apply.ensures.valid.state)
-          (pins_settled m.warehouse m.kept.items c.settle.new.kept.items m.pins.items c.settle.new.pins.items
-          c.in-Ok.ensures.keeps c.self.invariant.0),
+          (pins_settled c.in-Ok.ensures.keeps c.self.invariant.0),
       omega (arith, c.settle.ensures.capacity, c.self.invariant.1),
     )
 
@@ -72,14 +69,14 @@ returns-in-Ok-apply-clause-apart g c =
 
 pub returns-in-Err-clause-pins : goal.returns-in-Err-clause-pins
 returns-in-Err-clause-pins g c =
-    versions_moved c.self.inside.pins.items c.settle.new.pins.items c.settle.ensures.keeps.pins
+    versions_kept c.settle.ensures.keeps
     ∙ ap (λ (v : Versions). v.pins) c.self.view_is
 
 pub returns-in-Err-clause-err : goal.returns-in-Err-clause-err
 returns-in-Err-clause-err g c =
     let m = c.self.inside in
     shows_same m.warehouse m.warehouse m.kept.items c.settle.new.kept.items m.pins.items c.settle.new.pins.items
-    c.args.self.now refl (versions_moved m.pins.items c.settle.new.pins.items c.settle.ensures.keeps.pins) c.self.view_is
+    c.args.self.now refl (versions_kept c.settle.ensures.keeps) c.self.view_is
 
 pub returns-in-Err-apply-clause-gives : goal.returns-in-Err-apply-clause-gives
 returns-in-Err-apply-clause-gives g c =
@@ -89,19 +86,19 @@ returns-in-Err-apply-clause-gives g c =
 
 pub returns-in-Err-apply-clause-pins : goal.returns-in-Err-apply-clause-pins
 returns-in-Err-apply-clause-pins g c =
-    versions_moved c.self.inside.pins.items c.settle.new.pins.items c.settle.ensures.keeps.pins
+    versions_kept c.settle.ensures.keeps
     ∙ ap (λ (v : Versions). v.pins) c.self.view_is
 
 pub returns-in-Err-apply-clause-err : goal.returns-in-Err-apply-clause-err
 returns-in-Err-apply-clause-err g c =
     let m = c.self.inside in
     shows_same m.warehouse c.apply.new.self m.kept.items c.settle.new.kept.items m.pins.items c.settle.new.pins.items
-    c.args.self.now (same_held g c) (versions_moved m.pins.items c.settle.new.pins.items c.settle.ensures.keeps.pins)
+    c.args.self.now (same_held g c) (versions_kept c.settle.ensures.keeps)
     c.self.view_is
 
 pub returns-in-Ok-apply-clause-pins : goal.returns-in-Ok-apply-clause-pins
 returns-in-Ok-apply-clause-pins g c =
-    versions_moved c.self.inside.pins.items c.settle.new.pins.items c.settle.ensures.keeps.pins
+    versions_kept c.settle.ensures.keeps
     ∙ ap (λ (v : Versions). v.pins) c.self.view_is
 
 pub returns-in-Ok-apply-clause-valid : goal.returns-in-Ok-apply-clause-valid
@@ -134,9 +131,7 @@ returns-in-Err-apply-clause-unread g c
 
 pub returns-in-Ok-apply-clause-lists : goal.returns-in-Ok-apply-clause-lists
 returns-in-Ok-apply-clause-lists g c =
-    let m = c.self.inside in
-    let are = pins_settled m.warehouse m.kept.items c.settle.new.kept.items m.pins.items c.settle.new.pins.items
-    c.settle.ensures.keeps c.self.invariant.0 in
+    let are = pins_settled c.settle.ensures.keeps c.self.invariant.0 in
     few_lists c.keep_images.new.warehouse c.settle.new.kept.items c.keep_images.new.kept.items c.settle.new.pins.items
     c.apply.new.self.images c.keep_images.ensures.kept c.in-Ok.ensures.settled are.first
 

@@ -7,7 +7,7 @@ use Rattle.warehouse.specs.State.{Contents, State}
 use Rattle.warehouse.specs.Stored.{applied_in, refusal_in}
 use Rattle.pinned_view.specs.Pins.{ArePins}
 use Rattle.pinned_view.specs.Versions.{Versions}
-use Rattle.pinned_view.proofs.Staying.{after_change, pins_settled, versions_moved}
+use Rattle.pinned_view.proofs.Staying.{after_change, pins_settled, versions_kept}
 use Rattle.pinned_view.proofs.StoredFor.{few_lists, same_contents, shows_same}
 use Rattle.pinned_view.proofs.pinned.Pinned.load.Given as Given
 use Rattle.pinned_view.proofs.pinned.Pinned.load.Goals as goal
@@ -15,8 +15,7 @@ use Rattle.pinned_view.proofs.pinned.Pinned.load.Goals as goal
 pub invariant_of-self : goal.invariant_of-self
 invariant_of-self g c =
     let m = c.self.inside in (
-      pins_settled m.warehouse m.kept.items c.settle.new.kept.items m.pins.items c.settle.new.pins.items
-          c.settle.ensures.keeps c.self.invariant.0,
+      pins_settled c.settle.ensures.keeps c.self.invariant.0,
       omega (arith, c.settle.ensures.capacity, c.self.invariant.1),
     )
 
@@ -31,8 +30,7 @@ pub invariant_of-self-in-Err-load : goal.invariant_of-self-in-Err-load
 invariant_of-self-in-Err-load g c =
     let m = c.self.inside in (
       subst (λ (n : Contents). ArePins n c.settle.new.kept.items c.settle.new.pins.items) (sym (same_held g c))
-          (pins_settled m.warehouse m.kept.items c.settle.new.kept.items m.pins.items c.settle.new.pins.items
-          c.settle.ensures.keeps c.self.invariant.0),
+          (pins_settled c.settle.ensures.keeps c.self.invariant.0),
       omega (arith, c.settle.ensures.capacity, c.self.invariant.1),
     )
 
@@ -49,21 +47,20 @@ invariant_of-self-in-Ok-load g c =
           (ap (λ (s : State). s.schema) (taken-of was Load file applied c.in-Ok-load.ensures.gives).1)
           (λ rows tree has. tree-after was now rows tree Load file applied has c.in-Ok-load.ensures.gives refl
           c.load.ensures.valid.state)
-          (pins_settled m.warehouse m.kept.items c.settle.new.kept.items m.pins.items c.settle.new.pins.items
-          c.in-Ok.ensures.keeps c.self.invariant.0),
+          (pins_settled c.in-Ok.ensures.keeps c.self.invariant.0),
       omega (arith, c.settle.ensures.capacity, c.self.invariant.1),
     )
 
 pub returns-in-Err-clause-pins : goal.returns-in-Err-clause-pins
 returns-in-Err-clause-pins g c =
-    versions_moved c.self.inside.pins.items c.settle.new.pins.items c.settle.ensures.keeps.pins
+    versions_kept c.settle.ensures.keeps
     ∙ ap (λ (v : Versions). v.pins) c.self.view_is
 
 pub returns-in-Err-clause-err : goal.returns-in-Err-clause-err
 returns-in-Err-clause-err g c =
     let m = c.self.inside in
     shows_same m.warehouse m.warehouse m.kept.items c.settle.new.kept.items m.pins.items c.settle.new.pins.items
-    c.args.self.now refl (versions_moved m.pins.items c.settle.new.pins.items c.settle.ensures.keeps.pins) c.self.view_is
+    c.args.self.now refl (versions_kept c.settle.ensures.keeps) c.self.view_is
 
 pub returns-in-Err-load-clause-gives : goal.returns-in-Err-load-clause-gives
 returns-in-Err-load-clause-gives g c =
@@ -72,19 +69,19 @@ returns-in-Err-load-clause-gives g c =
 
 pub returns-in-Err-load-clause-pins : goal.returns-in-Err-load-clause-pins
 returns-in-Err-load-clause-pins g c =
-    versions_moved c.self.inside.pins.items c.settle.new.pins.items c.settle.ensures.keeps.pins
+    versions_kept c.settle.ensures.keeps
     ∙ ap (λ (v : Versions). v.pins) c.self.view_is
 
 pub returns-in-Err-load-clause-err : goal.returns-in-Err-load-clause-err
 returns-in-Err-load-clause-err g c =
     let m = c.self.inside in
     shows_same m.warehouse c.load.new.self m.kept.items c.settle.new.kept.items m.pins.items c.settle.new.pins.items
-    c.args.self.now (same_held g c) (versions_moved m.pins.items c.settle.new.pins.items c.settle.ensures.keeps.pins)
+    c.args.self.now (same_held g c) (versions_kept c.settle.ensures.keeps)
     c.self.view_is
 
 pub returns-in-Ok-load-clause-pins : goal.returns-in-Ok-load-clause-pins
 returns-in-Ok-load-clause-pins g c =
-    versions_moved c.self.inside.pins.items c.settle.new.pins.items c.settle.ensures.keeps.pins
+    versions_kept c.settle.ensures.keeps
     ∙ ap (λ (v : Versions). v.pins) c.self.view_is
 
 pub returns-in-Ok-load-clause-valid : goal.returns-in-Ok-load-clause-valid
@@ -107,8 +104,6 @@ returns-in-Ok-load-clause-steps g c =
 
 pub returns-in-Ok-load-clause-lists : goal.returns-in-Ok-load-clause-lists
 returns-in-Ok-load-clause-lists g c =
-    let m = c.self.inside in
-    let are = pins_settled m.warehouse m.kept.items c.settle.new.kept.items m.pins.items c.settle.new.pins.items
-    c.settle.ensures.keeps c.self.invariant.0 in
+    let are = pins_settled c.settle.ensures.keeps c.self.invariant.0 in
     few_lists c.keep_images.new.warehouse c.settle.new.kept.items c.keep_images.new.kept.items c.settle.new.pins.items
     c.load.new.self.images c.keep_images.ensures.kept c.in-Ok.ensures.settled are.first

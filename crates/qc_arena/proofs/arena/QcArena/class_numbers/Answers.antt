@@ -19,7 +19,7 @@ numbers_of_classes-requires-clause-small g c = λ q h.
 pub returns-clause-numbers : goal.returns-clause-numbers
 returns-clause-numbers g c =
     subst (λ (class : ℕ → Option defs.Agg). IfOk c.numbers_of_classes.result (λ ns. AreClassNumbers class ns.items))
-    (λ j q. class_in (sym (there c.self.inside.nodes c.args.self.now.now q (ap (λ (v : Arena). v.now) c.self.view_is)) j))
+    (λ j q. class_in (sym (there c.self.inside.nodes q (ap (λ (v : Arena). v.now) c.self.view_is)) j))
     c.numbers_of_classes.ensures.numbers
 
 pub returns-clause-steps : goal.returns-clause-steps

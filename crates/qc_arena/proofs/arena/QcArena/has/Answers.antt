@@ -10,4 +10,4 @@ pub returns : goal.returns
 returns c =
     c.is_some.ensures ∙ some_map (λ x. x.now) c.record_in.result ∙ some_map node_in (option_copied c.record_in.result)
     ∙ ap is_some (c.record_in.ensures
-    ∙ sym (there c.self.inside.nodes c.args.self.now.now c.args.node.0 (ap (λ (v : Arena). v.now) c.self.view_is)))
+    ∙ sym (there c.self.inside.nodes c.args.node.0 (ap (λ (v : Arena). v.now) c.self.view_is)))

@@ -12,11 +12,11 @@ pub returns-in-Some-clause-some : goal.returns-in-Some-clause-some
 returns-in-Some-clause-some c = (
   refl,
   ap is_some
-      (there c.self.inside.nodes c.args.self.now.now c.args.place (ap (λ (v : Arena). v.now) c.self.view_is)
+      (there c.self.inside.nodes c.args.place (ap (λ (v : Arena). v.now) c.self.view_is)
       ∙ sym c.in-Some.ensures),
 )
 
 pub returns-in-None-clause-none : goal.returns-in-None-clause-none
 returns-in-None-clause-none c =
-    there c.self.inside.nodes c.args.self.now.now c.args.place (ap (λ (v : Arena). v.now) c.self.view_is)
+    there c.self.inside.nodes c.args.place (ap (λ (v : Arena). v.now) c.self.view_is)
     ∙ sym c.in-None.ensures

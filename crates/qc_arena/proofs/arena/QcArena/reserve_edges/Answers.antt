@@ -4,13 +4,13 @@ use Rattle.cube_defs.specs.Tree.{Tree}
 use Rattle.qc_arena.specs.Map.{Arena}
 use Rattle.qc_arena.specs.Inside.{begun, join, touched_in, was_of}
 use Rattle.qc_arena.proofs.ArenaSteps.{same_arena}
-use Rattle.qc_arena.proofs.SlotMaps.{slots_same, stands, there}
+use Rattle.qc_arena.proofs.SlotMaps.{in_slot, slots_same, there}
 use Rattle.qc_arena.proofs.Stored.{as_is, set_stored}
 use Rattle.qc_arena.proofs.arena.QcArena.reserve_edges.Goals as goal
 
 pub reserve_edges_at-requires : goal.reserve_edges_at-requires
 reserve_edges_at-requires c
-    = stands c.self.inside.nodes c.args.self.now.now c.args.node.0 (ap (λ (v : Arena). v.now) c.self.view_is)
+    = in_slot c.self.inside.nodes c.args.node.0 (ap (λ (v : Arena). v.now) c.self.view_is)
     c.requires
 
 pub invariant_of-self : goal.invariant_of-self
@@ -21,7 +21,7 @@ invariant_of-self c =
       same_arena m.dims m.dims_then m.max m.nodes t m.images m.is_open m.kept m.was k c.self.invariant.0
           c.reserve_edges_at.ensures.there c.reserve_edges_at.ensures.here c.reserve_edges_at.ensures.others,
       set_stored m.nodes t m.parts k (λ n. n) c.self.invariant.1
-          (stands m.nodes c.args.self.now.now k (ap (λ (v : Arena). v.now) c.self.view_is) c.requires) (λ n. refl)
+          (in_slot m.nodes k (ap (λ (v : Arena). v.now) c.self.view_is) c.requires) (λ n. refl)
           (c.reserve_edges_at.ensures.here ∙ as_is (join (slots.get m.nodes k))) c.reserve_edges_at.ensures.others,
     )
 

@@ -89,4 +89,4 @@ returns-clause-nodes c = λ q.
     (ap (option_map (λ (n : Known). n.cell)) (get_now m.nodes q) ∙ e) in
     get_now t q ∙ c.resize_all.ensures.nodes q ∙ kept_long m.dims (m.dims + 1) (join (slots.get m.nodes q)) refl long
     ∙ ap (option_map with_any_by_number)
-    (sym (there m.nodes c.args.self.now.now q (ap (λ (v : Arena). v.now) c.self.view_is)))
+    (sym (there m.nodes q (ap (λ (v : Arena). v.now) c.self.view_is)))
