@@ -1,10 +1,8 @@
 -- The numbers of the rows that are here.
 use Rattle.std.proofs.Common.{◌≡◌, ℕ, ◌+◌, ◌<◌, Bool, true, false, cond, List, [], ◌∷◌, ◌++◌, Option, Some, None, length, map, filter}
 use Rattle.std.proofs.Common.{get_or, refl, ap, ap₂, sym, ◌∙◌, arith, suc, zero, is_some, length-append, subst}
-use Rattle.std.specs.List.{cons_option, filter_map, range_with_len}
-use Rattle.std.proofs.lemmas.List.{append-nil, get_or_default, map-append}
-use Rattle.std.specs.List.{All}
-use Rattle.std.proofs.lemmas.List.{append_assoc, get_or-map, get_or_at, length-map}
+use Rattle.std.specs.List.{cons_option, filter_map, range_with_len, All}
+use Rattle.std.proofs.lemmas.List.{append-nil, get_or_default, map-append, append_assoc, get_or-map, get_or_at, length-map}
 use Rattle.std.proofs.lemmas.List.Elements.{filter_agree, filter_passes}
 use Rattle.cube_defs.specs.Rows.{Row}
 use Rattle.base_table.specs.Places.{AreThere, Places, named, numbers, row_at, rows_in, rows_of}

@@ -2,12 +2,11 @@
 use Rattle.std.proofs.Common.{◌≡◌, ◌≢◌, ◌∙◌, get_or, inl, inr, ℕ, zero, suc, ◌<◌, ◌≤◌, Bool, true, false, not, Option, Some, None, List, []}
 use Rattle.std.proofs.Common.{◌∷◌, filter_map, length, slice_get, nat_eq, refl, sym, ap, subst, arith, eqb-true, is_some, true≢false}
 use Rattle.std.proofs.lemmas.Bool.{and_from, and_parts, cond-true, cond-false}
-use Rattle.std.proofs.lemmas.Bool.Decides.{nat_tests}
+use Rattle.std.proofs.lemmas.Bool.Decides.{nat_tests, eqb_tells}
 use Rattle.std.specs.List.{cons_option, list_all}
 use Rattle.std.specs.Option.{option_map}
 use Rattle.std.specs.Prelude.{IsSome}
 use Rattle.std.specs.FinMap as map
-use Rattle.std.proofs.lemmas.Bool.Decides.{eqb_tells}
 use Rattle.cube_defs.specs.Tree.{Edge, Tree}
 use Rattle.std.proofs.lemmas.Option.{slice_get_within}
 use Rattle.batch_delete.proofs.Growing.{item_at}

@@ -2,8 +2,7 @@
 use Rattle.std.specs.FinMap as map
 use Rattle.std.specs.List.{sum_by}
 use Rattle.std.specs.Prelude.{◌≡◌, ◌≢◌, ◌<◌, ◌≤◌, ◌+◌, ◌*◌, IfSome, IsSome, length, slice_get, ℕ, zero, suc, [], ◌∷◌, filter_map, Bool}
-use Rattle.std.specs.Prelude.{true, false}
-use Rattle.std.specs.Prelude.{◌&&◌, ◌||◌, Option, Some, None, List, nat_eq, nat_lt, slice_index_or, if◌then◌else◌}
+use Rattle.std.specs.Prelude.{true, false, ◌&&◌, ◌||◌, Option, Some, None, List, nat_eq, nat_lt, slice_index_or, if◌then◌else◌}
 use Rattle.std.specs.Option.{option_and_then, option_map}
 use Rattle.std.specs.Map.{lookup}
 use Rattle.aggregates.specs.Views.{agg_in}

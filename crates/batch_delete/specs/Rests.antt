@@ -1,7 +1,6 @@
 -- What rows share and come to, before and after a row has gone.
 use Rattle.std.specs.Prelude.{◌≡◌, ◌≤◌, ◌+◌, ℕ, length, slice_get, false, true, Option, Some, None, List, ◌∷◌, ◌++◌, nat_eq, not, ◌&&◌}
-use Rattle.std.specs.Prelude.{filter_map}
-use Rattle.std.specs.Prelude.{if◌then◌else◌}
+use Rattle.std.specs.Prelude.{filter_map, if◌then◌else◌}
 use Rattle.std.specs.Option.{option_map}
 use Rattle.std.specs.Ordering.{eq_by_cmp, nat_cmp}
 use Rattle.aggregates.specs.Views.{agg_in}

@@ -1,5 +1,5 @@
 -- The parts of a plan one after another.
-use Rattle.batch_insert.specs.Stages.{IsStage}
+use Rattle.batch_insert.specs.Stages.{IsStage, HasLabel, HaveCopied, HaveEnded, HaveSet, IsCopied, IsDone, LabelsStay}
 use Rattle.std.proofs.Common.{◌≡◌, inl, inr, ℕ, ◌+◌, ◌<◌, Option, Some, None, IsSome, List, [], ◌∷◌, ◌++◌, ℤ, length, take, get_or}
 use Rattle.std.proofs.Common.{replicate, refl, sym, subst, ◌∙◌}
 use Rattle.std.proofs.lemmas.List.{take_more}
@@ -18,7 +18,6 @@ use Rattle.batch_insert.specs.Begun.{IsBegun}
 use Rattle.batch_insert.specs.Cases.{Case, IsPrefix}
 use Rattle.batch_insert.specs.Invariants.{IsClosed, KeepsNodes}
 use Rattle.batch_insert.specs.Planned.{IsPlan, IsRootOrPlanned}
-use Rattle.batch_insert.specs.Stages.{HasLabel, HaveCopied, HaveEnded, HaveSet, IsCopied, IsDone, LabelsStay}
 use Rattle.batch_insert.specs.Whole.{HasAll, IsCopyOf, IsEndFor, IsTupleLabelOf}
 use Rattle.batch_insert.proofs.Finished.{finished, cell_prefix_none}
 use Rattle.batch_insert.proofs.Masks.{flat_mask}

@@ -1,5 +1,5 @@
 -- One part of a plan.
-use Rattle.batch_insert.specs.Whole.{IsCopyOf}
+use Rattle.batch_insert.specs.Whole.{IsCopyOf, IsLast}
 use Rattle.std.proofs.Common.{◌+◌, ◌*◌, ◌≤◌, arith, ◌≡◌, ◌≢◌, inl, inr, ℕ, Option, Some, None, List, [], ◌∷◌, ℤ, length, nat_eq, replicate}
 use Rattle.std.proofs.Common.{slice_index_or, if◌then◌else◌, refl, sym, ap, subst, ◌∙◌}
 use Rattle.std.proofs.lemmas.Bool.{cond-true}
@@ -25,7 +25,6 @@ use Rattle.batch_insert.specs.Cases.{Case, IsPrefix}
 use Rattle.batch_insert.specs.Invariants.{with_edges}
 use Rattle.batch_insert.specs.Planned.{IsOld, sum_with}
 use Rattle.batch_insert.specs.Stages.{HaveCopied, HaveEnded, HaveSet, IsCopied, IsEnded, IsSet, IsStage}
-use Rattle.batch_insert.specs.Whole.{IsLast}
 use Rattle.batch_insert.proofs.Coming.{begun_new, begun_old}
 use Rattle.batch_insert.proofs.Ending.{ended_class, ended_forced, sum_is}
 use Rattle.batch_insert.proofs.Naming.{any_mask, same_mask}

@@ -5,8 +5,7 @@ use Rattle.std.proofs.lemmas.Bool.{cond-true, cond-false, false_from_ne_true}
 use Rattle.std.specs.List.{AllByRecursion}
 use Rattle.cube_defs.specs.Cell.{Cell, cell_prefix, cell_eq}
 use Rattle.cube_defs.specs.Rows.{Row, cov}
-use Rattle.cube_defs.specs.Tree.{edges_in}
-use Rattle.cube_defs.specs.Tree.{edges_in}
+use Rattle.cube_defs.specs.Tree.{edges_in, edges_in}
 use Rattle.cube_laws.specs.Lists.{Among}
 use Rattle.cube_laws.proofs.CallerLemmas.{nat_equality, cell_eq-exact, cell_eq-same, length-cell_prefix, all_map, all_append}
 use Rattle.cube_laws.proofs.CallerLemmas.{closure_length, IsShared, HaveDims, entry, closure-shared}

@@ -1,18 +1,16 @@
 -- In a map that follows the acts the edges of a record rise, and the label of a cell's next value leads down to its
 -- next prefix.
-use Rattle.cube_defs.specs.Cell.{cell_eq}
+use Rattle.cube_defs.specs.Cell.{cell_eq, Cell, cell_prefix}
 use Rattle.tree_laws.proofs.CallerLemmas.{at_tie}
 use Rattle.std.proofs.Common.{◌≡◌, ◌⊎◌, inl, inr, ℕ, suc, Bool, true, false, ◌&&◌, cond, Option, Some, None, List, [], ◌∷◌, ◌++◌, map}
 use Rattle.std.proofs.Common.{nat_eq, nat_cmp, refl, sym, ap, ap₂, subst, ◌∙◌, true≢false, eqb-true, eq-eqb}
 use Rattle.std.specs.List.Sorted.{IsStrictlySortedBy}
 use Rattle.std.proofs.lemmas.Bool.{cond-true, cond-false, false_from_ne_true, and_parts, and_from}
-use Rattle.std.specs.declared.cmp.Ordering.TheVariants.{Less, Equal}
+use Rattle.std.specs.declared.cmp.Ordering.TheVariants.{Less, Equal, Less, Equal}
 use Rattle.std.specs.Cmp.{tied_itself}
 use Rattle.std.specs.List.{AllByRecursion}
-use Rattle.cube_defs.specs.Cell.{Cell, cell_prefix}
 use Rattle.cube_defs.specs.Rows.{Row}
 use Rattle.cube_defs.specs.Tree.{Edge, Node, renamed_edge}
-use Rattle.std.specs.declared.cmp.Ordering.TheVariants.{Less, Equal}
 use Rattle.std.specs.Ordering.{eq_by_cmp, ordering_then, is_eq}
 use Rattle.std.specs.Prelude.{slice_index_or}
 use Rattle.cube_laws.specs.Lists.{Among}

@@ -6,10 +6,9 @@ use Rattle.std.proofs.lemmas.List.{map-append}
 use Rattle.std.specs.Option.{option_map}
 use Rattle.cube_defs.specs.Cell.{Cell, cell_eq}
 use Rattle.cube_defs.specs.Rows.{Agg}
-use Rattle.cube_defs.specs.Tree.{Node, renamed, renamed_edge, parent_cell_of}
+use Rattle.cube_defs.specs.Tree.{Node, renamed, renamed_edge, parent_cell_of, Tree, IsCanonical}
 use mathlib.Core.Path.{fun_ext}
 use Rattle.std.specs.FinMap as finmap
-use Rattle.cube_defs.specs.Tree.{Tree, IsCanonical}
 use Rattle.cube_laws.specs.Lists.{Among}
 use Rattle.cube_laws.proofs.CallerLemmas.{nat_equality, cell_eq-exact, cell_eq-same, among_left}
 use Rattle.tree_laws.proofs.CallerLemmas.{some_same}

@@ -1,11 +1,9 @@
 -- What the walk meets, without the labels: nodes that are made, and classes with their aggregates.
 use Rattle.std.specs.Prelude.{ℕ, zero, suc, Bool, Option, Some, None, List, [], ◌∷◌, ◌++◌, cond, slice_index_or, flat_map}
-use Rattle.cube_defs.specs.Cell.{Cell, cell_prefix}
-use Rattle.cube_defs.specs.Rows.{Row, Agg, agg_of}
+use Rattle.cube_defs.specs.Cell.{Cell, cell_prefix, Cell, cell_prefix}
+use Rattle.cube_defs.specs.Rows.{Row, Agg, agg_of, Row, Agg}
 use Rattle.std.proofs.Common.{◌≡◌, ℕ, zero, suc, Bool, true, false, cond, Option, Some, None, List, [], ◌∷◌, ◌++◌, flat_map, inl, inr, refl}
 use Rattle.std.proofs.Common.{ap, ap₂, ◌∙◌}
-use Rattle.cube_defs.specs.Cell.{Cell, cell_prefix}
-use Rattle.cube_defs.specs.Rows.{Row, Agg}
 use Rattle.cube_laws.specs.Lists.{Among}
 use Rattle.cube_laws.proofs.CallerLemmas.{entry}
 use Rattle.cube_laws.specs.Parting.{shared_by, part_at, codes_in}

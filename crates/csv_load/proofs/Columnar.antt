@@ -1,6 +1,6 @@
 -- Changes that lie in columns, one after the other.
-use Rattle.std.proofs.Common.{◌≡◌, ◌<◌, ◌≤◌, ◌+◌, ◌-◌, ◌*◌, ◌^◌, ◌∙◌, ℕ, ℤ, pos, Bool, true, false, List, [], ◌∷◌, ◌++◌, length, get_or, refl}
-use Rattle.std.proofs.Common.{sym, ap, ap₂, arith, map, subst, cond}
+use Rattle.std.proofs.Common.{◌≡◌, ◌<◌, ◌≤◌, ◌+◌, ◌-◌, ◌*◌, ◌^◌, ◌∙◌, ℕ, ℤ, pos, Bool, true, false, List, [], ◌∷◌, ◌++◌, length, get_or}
+use Rattle.std.proofs.Common.{refl, sym, ap, ap₂, arith, map, subst, cond}
 use Rattle.std.specs.Prelude.{nat_abs, slice_range, not, count_by}
 use Rattle.std.specs.List.{All, range_with_len}
 use Rattle.std.proofs.lemmas.List.{length_push, get_or_push, get_or_append_left, get_or-map, length-append, length-map}
@@ -10,8 +10,8 @@ use Rattle.std.proofs.lemmas.List.FromFn.{length-map-range_with_len, get_or-map-
 use Rattle.std.proofs.Math.Nat.{mul-le-mul_left}
 use Rattle.cube_defs.specs.Rows.{Row}
 use Rattle.cube_defs.specs.Text.{Text}
-use Rattle.csv_load.specs.Batch.{Adds, AreChanges, Batch, Change, Delete, HasChange, Insert, IsChange, IsLoaded, change_at_place, change_with, id_of}
-use Rattle.csv_load.specs.Batch.{inserted, is_deletion, row_at_place, row_of}
+use Rattle.csv_load.specs.Batch.{Adds, AreChanges, Batch, Change, Delete, HasChange, Insert, IsChange, IsLoaded, change_at_place, change_with}
+use Rattle.csv_load.specs.Batch.{id_of, inserted, is_deletion, row_at_place, row_of}
 use Rattle.csv_load.specs.declared.changes.ChangeColumns.{ChangeColumns}
 use Rattle.csv_load.proofs.Ranges.{range-append, range-after, same-below, get_or-range}
 use Rattle.cube_defs.specs.declared.limits.TheConstants.{MAX_AMOUNT}

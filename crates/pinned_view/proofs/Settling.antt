@@ -1,12 +1,10 @@
 -- How lists of images are settled, and what a pin reads meanwhile.
 use Rattle.std.proofs.Common.{◌≡◌, ℕ, zero, suc, ◌+◌, ◌*◌, ◌<◌, ◌≤◌, refl, sym, ap, ap₂, ◌∙◌, subst, false, List, [], ◌∷◌, ◌++◌, drop}
-use Rattle.std.proofs.Common.{length}
-use Rattle.std.proofs.Common.{map, arith, length-append}
+use Rattle.std.proofs.Common.{length, map, arith, length-append}
 use Rattle.std.proofs.lemmas.Simd.{map-map}
 use Rattle.std.specs.FinMap as finmap
 use Rattle.qc_arena.specs.Map.{ImageMap}
-use Rattle.pinned_view.specs.Pins.{AreSettledFrom, AreWithin, IsMergedAt, IsSettledAt, KeepsReads, moved_over}
-use Rattle.pinned_view.specs.Pins.{reads_from, unplaced}
+use Rattle.pinned_view.specs.Pins.{AreSettledFrom, AreWithin, IsMergedAt, IsSettledAt, KeepsReads, moved_over, reads_from, unplaced}
 use Rattle.pinned_view.specs.declared.pins.Pin.{Pin}
 use Rattle.pinned_view.proofs.Joining.{merged_reads}
 use Rattle.pinned_view.proofs.Places.{least_over, read_over, without_within}

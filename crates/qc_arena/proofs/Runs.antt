@@ -1,7 +1,6 @@
 -- Numbers that are listed, and a run after them.
-use Rattle.std.proofs.Common.{◌≡◌, ◌≢◌, ◌∙◌, ℕ, zero, suc, ◌+◌, ◌-◌, ◌<◌, ◌≤◌, List, [], ◌∷◌, ◌++◌, None, Some, length}
-use Rattle.std.proofs.Common.{length-append, get_or, Bool, ap, ap₂, append_assoc, arith, false, inl, inr, is_lt}
-use Rattle.std.proofs.Common.{nat_cmp, nat_eq, refl, subst, sym, true}
+use Rattle.std.proofs.Common.{◌≡◌, ◌≢◌, ◌∙◌, ℕ, zero, suc, ◌+◌, ◌-◌, ◌<◌, ◌≤◌, List, [], ◌∷◌, ◌++◌, None, Some, length, length-append}
+use Rattle.std.proofs.Common.{get_or, Bool, ap, ap₂, append_assoc, arith, false, inl, inr, is_lt, nat_cmp, nat_eq, refl, subst, sym, true}
 use Rattle.std.specs.List.{All, range_with_len}
 use Rattle.std.proofs.lemmas.List.Elements.{All-push}
 use Rattle.std.specs.List.Sorted.{IsSorted}

@@ -1,11 +1,10 @@
 -- The lines of a text, one after the other.
-use Rattle.std.proofs.Common.{◌≡◌, ◌+◌, ℕ, List, ◌∷◌, length, map, refl, true, false, Ok, Err}
+use Rattle.std.proofs.Common.{◌≡◌, ◌+◌, ℕ, List, ◌∷◌, length, map, refl, true, false, Ok, Err, inl, inr}
 use Rattle.std.specs.Prelude.{IfSome, IsUtf8}
 use Rattle.std.specs.Str.{is_utf8}
 use Rattle.std.proofs.lemmas.Bool.{cases_Bool}
 use Rattle.std.proofs.lemmas.List.{nil_from_length}
 use Rattle.std.proofs.lemmas.Str.{is_utf8-from_IsUtf8, IsUtf8-from_is_utf8}
-use Rattle.std.proofs.Common.{inl, inr}
 use Rattle.qc_schema.specs.Grammar.{may_end, read_lines, schema_in, start, take_line}
 use Rattle.qc_schema.specs.Lines.{schema_lines}
 use Rattle.text_lines.specs.Lines.{lines_of, without_cr}

@@ -1,8 +1,7 @@
 -- What a schema says, and what the grammar keeps of each.
-use Rattle.std.specs.Prelude.{ℕ, Bool, true, not, ◌≡◌, ◌≤◌, ◌&&◌, ◌==◌, List, [], ◌∷◌, ◌++◌, length, map, codes, nat_le, slice_index}
+use Rattle.std.specs.Prelude.{ℕ, Bool, true, not, ◌≡◌, ◌≤◌, ◌&&◌, ◌==◌, List, [], ◌∷◌, ◌++◌, length, map, codes, nat_le, slice_index, ◌||◌}
 use Rattle.std.specs.Char.{is_ascii_alphabetic, is_ascii_alphanumeric}
 use Rattle.std.specs.List.{list_all, list_any, AllByRecursion}
-use Rattle.std.specs.Prelude.{◌||◌}
 use Rattle.std.specs.Str.{bytes_eq}
 use Rattle.cube_defs.specs.Text.{Text}
 use Rattle.aggregates.specs.Views.{IsThere, same_kind}

@@ -30,8 +30,7 @@ use Rattle.warehouse.specs.declared.refused.Applied as code
 use Rattle.warehouse.specs.declared.refused.Refused.{Refused}
 use Rattle.warehouse.specs.Widening.{WidenRefusal, cost_of_widening, widen_result}
 use Rattle.qc_session.specs.Costs.{Costed, IsWithin, IsWithinScript, batch_cost, both_costs, taken_bytes_cost, changes_cost, costed_step}
-use Rattle.qc_session.specs.Costs.{file_cost}
-use Rattle.qc_session.specs.Costs.{item_cost, line_cost, script_cost, bytes_cost, widen_cost, widening_cost}
+use Rattle.qc_session.specs.Costs.{file_cost, item_cost, line_cost, script_cost, bytes_cost, widen_cost, widening_cost}
 use Rattle.qc_session.specs.Forms.{FileNames}
 use Rattle.qc_session.specs.Lines.{is_passed, script_lines}
 use Rattle.qc_session.specs.Pins.{PinnedState, pin_in, unpinned}

@@ -2,7 +2,7 @@
 use Rattle.std.proofs.Common.{◌≡◌, ◌≢◌, ◌↔◌, ℕ, zero, suc, ◌<◌, ◌≤◌, Bool, true, false, Some, None, List, [], ◌∷◌, length, refl, sym, ap}
 use Rattle.std.proofs.Common.{◌∙◌, subst, arith, true≢false, ◌⊎◌, inl, inr}
 use Rattle.std.specs.Prelude.{slice_get}
-use Rattle.std.proofs.lemmas.Bool.{and_parts, and_from}
+use Rattle.std.proofs.lemmas.Bool.{and_parts, and_from, cases_lt}
 use Rattle.std.specs.Ordering.{nat_cmp, eq_by_cmp}
 use Rattle.std.specs.Option.{option_map}
 use Rattle.cube_defs.specs.Cell.{Cell, depth, entry_leq, cell_prefix, leq, upto, with_value}
@@ -19,7 +19,6 @@ use Rattle.quotient_lattice.specs.Neighbours.{is_parent}
 use Rattle.quotient_lattice.proofs.InOrder.{join_parent, parent_join}
 use Rattle.quotient_lattice.proofs.Joins.{IsJoin}
 use Rattle.quotient_lattice.proofs.StepUp.{leq-length}
-use Rattle.std.proofs.lemmas.Bool.{cases_lt}
 use Rattle.std.proofs.lemmas.Option.{slice_get_within}
 
 leq_put : (c e : Cell ℕ) (i v : ℕ) → leq (eq_by_cmp nat_cmp) c e ≡ true → slice_get e i ≡ Some (Some v)

@@ -18,8 +18,7 @@ use Rattle.tree_search.specs.Found.{IsTreeOf, IsTree, IsNumberOfCell, TreeRows, 
 use Rattle.tree_search.proofs.CallerLemmas.{cell_of, cell_there, there_is, wide}
 use Rattle.cells_below.specs.Closed.{has_closure_in}
 use Rattle.cells_below.proofs.CallerLemmas.{leads_some}
-use Rattle.quotient_lattice.specs.Candidates.{edges_on_way, edges_up, label_leads, lead_count, leads_by, leads_to}
-use Rattle.quotient_lattice.specs.Candidates.{new_value}
+use Rattle.quotient_lattice.specs.Candidates.{edges_on_way, edges_up, label_leads, lead_count, leads_by, leads_to, new_value}
 use Rattle.quotient_lattice.proofs.LabelsLead.{count-one}
 
 -- Any put back where a value was put

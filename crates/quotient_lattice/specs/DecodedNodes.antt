@@ -1,9 +1,8 @@
 -- The cells of nodes, with the texts of their codes.
-use Rattle.std.specs.Prelude.{List, map}
+use Rattle.std.specs.Prelude.{List, map, ℕ}
 use Rattle.cube_defs.specs.Cell.{Cell}
 use Rattle.cube_defs.specs.Text.{Text}
 use Rattle.cube_defs.specs.Tree.{Tree}
-use Rattle.std.specs.Prelude.{ℕ}
 use Rattle.cell_core.specs.declared.cell.NodeNo.{NodeNo}
 use Rattle.qc_arena.specs.RecordReaders.{record_at}
 use Rattle.value_dict.specs.Decoded.{decoded_cell}

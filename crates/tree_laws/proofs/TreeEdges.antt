@@ -5,7 +5,7 @@ use Rattle.std.proofs.Common.{eq-eqb}
 use Rattle.std.proofs.lemmas.Bool.{cond-true, cond-false, false_from_ne_true}
 use Rattle.std.specs.declared.cmp.Ordering.{Ordering}
 use Rattle.std.specs.Ordering.{eq_by_cmp}
-use Rattle.std.specs.Cmp.{IsTotalOrder}
+use Rattle.std.specs.Cmp.{IsTotalOrder, both_ways}
 use Rattle.std.specs.FinMap.{IsAntisymmetric}
 use Rattle.std.specs.List.{AllByRecursion, count_by, sum_by}
 use Rattle.std.specs.Option.{option_map, option_eq}
@@ -18,7 +18,6 @@ use Rattle.cube_laws.proofs.CallerLemmas.{among_map, map_among, among_filter, fi
 use Rattle.cube_laws.proofs.CallerLemmas.{cell_eq-exact, cell_eq-same, length-cell_prefix, depth-le, cell_prefix_zero, cell_prefix-depth}
 use Rattle.cube_laws.proofs.CallerLemmas.{depth-cell_prefix_zero, closure_idem, is_class-is, covered-is, covered_some, closure_length}
 use Rattle.cube_laws.proofs.CallerLemmas.{one_value, one_value-leq, nodes-is, class_prefixes, prefix_of_class, node_closed, equality_by}
-use Rattle.std.specs.Cmp.{both_ways}
 use Rattle.std.proofs.lemmas.List.{length-map}
 use Rattle.tree_laws.specs.Labels.{target_of_label, IsLabel, record_of}
 use Rattle.tree_laws.specs.Counts.{is_parent_of}

@@ -1,8 +1,7 @@
 -- A walk from the root lists all nodes of a tree, and its steps are within what listing them may cost.
-use Rattle.std.proofs.Common.{◌≡◌, ◌≢◌, inl, inr, ℕ, zero, suc, ◌+◌, ◌-◌, ◌*◌, ◌<◌, ◌≤◌, Bool, true, false, cond, Option, Some}
-use Rattle.std.proofs.Common.{None, List, [], ◌∷◌}
-use Rattle.std.proofs.Common.{◌++◌, length, map, flat_map, take, drop, replicate, slice_get, nat_eq, eqb-true, refl, sym, ap, ap₂, subst}
-use Rattle.std.proofs.Common.{◌∙◌, arith, is_some, nat_cmp, true≢false}
+use Rattle.std.proofs.Common.{◌≡◌, ◌≢◌, inl, inr, ℕ, zero, suc, ◌+◌, ◌-◌, ◌*◌, ◌<◌, ◌≤◌, Bool, true, false, cond, Option, Some, None, List}
+use Rattle.std.proofs.Common.{[], ◌∷◌, ◌++◌, length, map, flat_map, take, drop, replicate, slice_get, nat_eq, eqb-true, refl, sym, ap, ap₂}
+use Rattle.std.proofs.Common.{subst, ◌∙◌, arith, is_some, nat_cmp, true≢false}
 use Rattle.std.specs.Prelude.{IsSome}
 use Rattle.std.specs.FinMap as numbers
 use Rattle.std.specs.Cmp.{nat_cmp_total, tied_itself}
@@ -19,8 +18,7 @@ use Rattle.cube_defs.specs.Rows as defs
 use Rattle.cube_defs.specs.Tree.{Edge, Tree, cell_at}
 use Rattle.tree_laws.specs.Counts.{classes_in}
 use Rattle.cube_laws.specs.Lists.{Among}
-use Rattle.cube_laws.proofs.CallerLemmas.{all_append, cell_prefix_zero, code_equality, get_among}
-use Rattle.cube_laws.proofs.CallerLemmas.{map_among, take_all}
+use Rattle.cube_laws.proofs.CallerLemmas.{all_append, cell_prefix_zero, code_equality, get_among, map_among, take_all}
 use Rattle.iceberg_query.specs.Subtree as seen
 use Rattle.iceberg_query.specs.Subtree.{is_child, subtree}
 use Rattle.iceberg_query.proofs.CallerLemmas.{all_below, below_begins, below_more, below_once, each_once, from_edge}

@@ -1,4 +1,4 @@
-use Rattle.std.proofs.Common.{Err, ◌≡◌, ◌<◌, ap, arith, length, subst}
+use Rattle.std.proofs.Common.{Err, ◌≡◌, ◌<◌, ap, arith, length, subst, ◌∙◌, sym}
 use Rattle.cube_defs.specs.Text.{text_cmp}
 use Rattle.cube_defs.specs.Tree.{nodes}
 use Rattle.warehouse.specs.State.{State}
@@ -11,7 +11,6 @@ use Rattle.cube_snapshot.specs.declared.refused.PartRefused.{PartRefused}
 use Rattle.warehouse.proofs.CallerLemmas.{is-consistent}
 use Rattle.cube_snapshot.proofs.StateLaws.{made-spelled, refused-state, stored-made, unique}
 use Rattle.cube_snapshot.proofs.decoding.decode_with_keys.Goals as goal
-use Rattle.std.proofs.Common.{◌∙◌, sym}
 
 pub from_parts-requires : goal.from_parts-requires
 from_parts-requires g c

@@ -1,11 +1,10 @@
 use Rattle.std.proofs.Common.{◌∙◌, ℕ, All, List, Some, ap, ap₂, length, subst, sym}
 use Rattle.base_table.specs.Places.{Places, rows_of}
 use Rattle.cube_defs.specs.Rows.{Row}
-use Rattle.cube_snapshot.specs.Format.{repeated}
+use Rattle.cube_snapshot.specs.Format.{repeated, whole}
 use Rattle.cube_snapshot.specs.Parts.{rows, texts}
 use Rattle.cube_snapshot.specs.Readers.{AreAllowed, MayFollowSchema, MayBeRows, Refuses}
 use Rattle.cube_snapshot.specs.Snapshot.{texts_and_rows}
-use Rattle.cube_snapshot.specs.Format.{whole}
 use Rattle.cube_snapshot.proofs.Stages.{after_done, after_not_done, refuse_lists, refuse_none, refuse_rows}
 use Rattle.cube_snapshot.proofs.whole.read_texts_and_rows.Goals as goal
 

@@ -1,6 +1,5 @@
 use Rattle.std.proofs.Common.{true, false, true≢false, ◌≡◌, ◌<◌, ◌≤◌, ◌+◌, ◌*◌, ℕ, Some, [], ◌∷◌, ◌++◌, length, map, nat_eq, take, get_or}
-use Rattle.std.proofs.Common.{refl, sym}
-use Rattle.std.proofs.Common.{ap, subst, ◌∙◌, arith, inl}
+use Rattle.std.proofs.Common.{refl, sym, ap, subst, ◌∙◌, arith, inl}
 use Rattle.std.specs.Prelude.{Err, Ok, OnOk, Result, is_err, slice_get}
 use Rattle.std.specs.Option.{option_copied}
 use Rattle.std.specs.List.{IsDistinct, sum_by}

@@ -1,5 +1,5 @@
 use Rattle.std.proofs.Common.{Option, ◌∙◌, [], ap, subst, sym}
-use Rattle.std.specs.Prelude.{IfSome}
+use Rattle.std.specs.Prelude.{IfSome, ℕ}
 use Rattle.std.specs.Ordering.{nat_cmp}
 use Rattle.base_table.specs.Places.{rows_of}
 use Rattle.cube_defs.specs.Tree.{IsCanonical, Tree}
@@ -9,7 +9,6 @@ use Rattle.warehouse.specs.State.{IsIndexed}
 use Rattle.warehouse.specs.Stored.{IsTreeOfSome}
 use Rattle.warehouse.proofs.Trees.{kept-canonical, kept-empty, tree-from}
 use Rattle.warehouse.proofs.parts.tree_and_index.Goals as goal
-use Rattle.std.specs.Prelude.{ℕ}
 
 pub build_index-requires-clause-before : goal.build_index-requires-clause-before
 build_index-requires-clause-before g c =

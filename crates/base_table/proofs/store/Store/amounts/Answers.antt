@@ -1,7 +1,6 @@
 use Rattle.base_table.proofs.Columns.{amounts_fit, amounts-view, row-view}
-use Rattle.std.proofs.Common.{ℕ, [], All, ◌≤◌, nat_abs}
+use Rattle.std.proofs.Common.{ℕ, [], All, ◌≤◌, nat_abs, ◌∙◌, sym, subst}
 use Rattle.cube_defs.specs.Rows.{Row}
-use Rattle.std.proofs.Common.{◌∙◌, sym, subst}
 use Rattle.base_table.proofs.store.Store.amounts.Goals as goal
 use Rattle.cube_defs.specs.declared.limits.TheConstants.{MAX_AMOUNT}
 

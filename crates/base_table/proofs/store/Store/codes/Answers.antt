@@ -1,7 +1,6 @@
 use Rattle.base_table.proofs.Columns.{codes_fit, tuple-view, row-view}
-use Rattle.std.proofs.Common.{ℕ, [], All, ◌<◌}
+use Rattle.std.proofs.Common.{ℕ, [], All, ◌<◌, ◌∙◌, sym, subst}
 use Rattle.cube_defs.specs.Rows.{Row}
-use Rattle.std.proofs.Common.{◌∙◌, sym, subst}
 use Rattle.base_table.proofs.store.Store.codes.Goals as goal
 
 pub line-requires : goal.line-requires

@@ -1,7 +1,6 @@
 use Rattle.base_table.proofs.Columns.{ids-view}
-use Rattle.std.proofs.Common.{◌∙◌, ap}
+use Rattle.std.proofs.Common.{◌∙◌, ap, nat_eq}
 use Rattle.base_table.proofs.store.Store.last.Goals as goal
-use Rattle.std.proofs.Common.{nat_eq}
 use Rattle.base_table.specs.Last.{last_of}
 
 pub returns : goal.returns

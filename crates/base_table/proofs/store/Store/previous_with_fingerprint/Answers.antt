@@ -1,8 +1,7 @@
 use Rattle.base_table.proofs.Columns.{prints-view}
 use Rattle.base_table.specs.Store.{print_of}
-use Rattle.std.proofs.Common.{◌∙◌, ap, map, take, get_or}
+use Rattle.std.proofs.Common.{◌∙◌, ap, map, take, get_or, ℕ, List, nat_eq}
 use Rattle.base_table.proofs.store.Store.previous_with_fingerprint.Goals as goal
-use Rattle.std.proofs.Common.{ℕ, List, nat_eq}
 use Rattle.std.proofs.lemmas.List.{get_or-map}
 use Rattle.base_table.specs.Last.{last_of}
 

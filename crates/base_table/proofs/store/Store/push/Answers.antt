@@ -1,10 +1,8 @@
 use Rattle.base_table.proofs.Columns.{length-view, length-prints, rows-push, store_pushed}
-use Rattle.base_table.specs.Store.{StoredRows, rows_from}
-use Rattle.std.proofs.Common.{◌≡◌, ◌∙◌, ap, arith, sym, subst}
+use Rattle.base_table.specs.Store.{StoredRows, rows_from, IsStore, print_in}
+use Rattle.std.proofs.Common.{◌≡◌, ◌∙◌, ap, arith, sym, subst, ◌+◌, ◌*◌, ◌≤◌, ◌++◌, ◌∷◌, [], List, ℕ, ℤ, length, vec_capacity}
 use Rattle.base_table.proofs.store.Store.push.Goals as goal
-use Rattle.std.proofs.Common.{◌+◌, ◌*◌, ◌≤◌, ◌++◌, ◌∷◌, [], List, ℕ, ℤ, length, vec_capacity}
 use Rattle.base_table.specs.Places.{IsRow, row_of, values_of}
-use Rattle.base_table.specs.Store.{IsStore, print_in}
 
 pub push-requires : goal.push-requires
 push-requires c =

@@ -1,9 +1,8 @@
-use Rattle.std.proofs.Common.{◌∙◌, ap, arith, ℕ, ◌<◌, Bool, [], refl, length, get_or, Some, None, cond}
+use Rattle.std.proofs.Common.{◌∙◌, ap, arith, ℕ, ◌<◌, Bool, [], refl, length, get_or, Some, None, cond, is_some}
 use Rattle.cube_defs.specs.Rows.{Row}
 use Rattle.base_table.specs.Places.{Places}
 use Rattle.base_table.proofs.Holding.{length-view, mark_read}
 use Rattle.base_table.proofs.table.Table.at.Goals as goal
-use Rattle.std.proofs.Common.{is_some}
 
 pub index-requires : goal.index-requires
 index-requires c =

@@ -1,10 +1,8 @@
-use Rattle.std.proofs.Common.{◌∙◌, ap, refl, subst, Bool, false, Some}
-use Rattle.base_table.specs.Places.{Places}
+use Rattle.std.proofs.Common.{◌∙◌, ap, refl, subst, Bool, false, Some, vec_capacity}
+use Rattle.base_table.specs.Places.{Places, rows_of}
 use Rattle.base_table.proofs.Holding.{base, begun_table, begun_rows, closed-view}
 use Rattle.base_table.proofs.table.Table.begin.Goals as goal
-use Rattle.base_table.specs.Places.{rows_of}
 use Rattle.base_table.specs.Store.{AreTableFields}
-use Rattle.std.proofs.Common.{vec_capacity}
 
 closed : (c : goal.After-self-1)
     → AreTableFields c.self.inside.store c.self.inside.here.items c.self.inside.touched.items

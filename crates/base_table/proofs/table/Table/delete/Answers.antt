@@ -1,10 +1,8 @@
-use Rattle.std.proofs.Common.{◌≡◌, ◌∙◌, ap, sym, subst, ℕ, List, [], refl, get_or, Option, Some, map}
+use Rattle.std.proofs.Common.{◌≡◌, ◌∙◌, ap, sym, subst, ℕ, List, [], refl, get_or, Option, Some, map, IfSome, is_some}
 use Rattle.cube_defs.specs.Rows.{Row}
-use Rattle.base_table.specs.Places.{Places, rows_of}
+use Rattle.base_table.specs.Places.{Places, rows_of, cleared, has_id, row_with_id}
 use Rattle.base_table.proofs.Holding.{row-view, found_at, rows-view}
 use Rattle.base_table.proofs.table.Table.delete.Goals as goal
-use Rattle.std.proofs.Common.{IfSome, is_some}
-use Rattle.base_table.specs.Places.{cleared, has_id, row_with_id}
 use Rattle.base_table.proofs.Placed.{found_has, found_row, rows_cleared}
 
 no_row : Row ℕ

@@ -1,13 +1,11 @@
 use Rattle.std.proofs.Common.{◌≡◌, ◌∙◌, ap, arith, sym, subst, ℕ, ◌-◌, Bool, true, false, List, [], get_or, Some, None, set, map}
-use Rattle.std.proofs.Common.{vec_capacity}
+use Rattle.std.proofs.Common.{vec_capacity, if◌then◌else◌}
 use Rattle.cube_defs.specs.Rows.{Row}
-use Rattle.base_table.specs.Places.{Places}
+use Rattle.base_table.specs.Places.{Places, cleared, padded}
 use Rattle.base_table.specs.Store.{AreTableFields, base_then, marks_then}
 use Rattle.base_table.specs.Last.{picked}
 use Rattle.base_table.proofs.Holding.{some_here, take_table, taken_places, at-view, at_row, open-view, row-view}
 use Rattle.base_table.proofs.table.Table.delete_at.Goals as goal
-use Rattle.std.proofs.Common.{if◌then◌else◌}
-use Rattle.base_table.specs.Places.{cleared, padded}
 use Rattle.base_table.proofs.Batches.{marks_stay}
 
 no_row : Row ℕ

@@ -1,10 +1,9 @@
 use Rattle.std.proofs.Common.{◌∙◌, ap, arith, sym, ℕ, ◌∷◌, [], refl, Option, Some}
 use Rattle.cube_defs.specs.Rows.{Row}
-use Rattle.base_table.specs.Places.{rows_of}
+use Rattle.base_table.specs.Places.{rows_of, row_of}
 use Rattle.base_table.proofs.Holding.{count-view, max-view}
 use Rattle.base_table.proofs.table.Table.insert.Goals as goal
 use Rattle.std.proofs.lemmas.List.Elements.{filter_map-append}
-use Rattle.base_table.specs.Places.{row_of}
 
 pub put-requires-clause-room : goal.put-requires-clause-room
 put-requires-clause-room c =

@@ -1,12 +1,11 @@
 use Rattle.std.proofs.Common.{◌≡◌, ◌∙◌, ap, arith, sym, subst, ℕ, ◌+◌, ◌++◌, ◌∷◌, Bool, true, List, [], Some, None, vec_capacity}
 use Rattle.cube_defs.specs.Rows.{Row}
-use Rattle.base_table.specs.Places.{Places}
+use Rattle.base_table.specs.Places.{Places, has_id, row_of}
 use Rattle.base_table.specs.Store.{AreTableFields, StoredRows, base_then, marks_then, placed}
 use Rattle.base_table.specs.Last.{picked}
 use Rattle.base_table.proofs.Holding.{put_table, put_was, open-view, rows-view, count-view, max-view}
 use Rattle.base_table.proofs.table.Table.put.Goals as goal
 use Rattle.std.proofs.Common.{if◌then◌else◌}
-use Rattle.base_table.specs.Places.{has_id, row_of}
 use Rattle.base_table.proofs.Placed.{placed-push}
 
 opened : (c : goal.After-self-1)

@@ -1,11 +1,10 @@
-use Rattle.std.proofs.Common.{◌≡◌, ◌∙◌, ap, map, sym, subst, ℕ, Bool, false, List, [], Some, None, take, vec_capacity}
+use Rattle.std.proofs.Common.{◌≡◌, ◌∙◌, ap, map, sym, subst, ℕ, Bool, false, List, [], Some, None, take, vec_capacity, if◌then◌else◌}
 use Rattle.cube_defs.specs.Rows.{Row}
 use Rattle.base_table.specs.Places.{Places, narrowed, rows_in}
 use Rattle.base_table.specs.Store.{AreTableFields, StoredRows, base_then, marks_then, placed, restored}
 use Rattle.base_table.specs.Last.{picked}
 use Rattle.base_table.proofs.Holding.{base, rolled_store, rolled_table, open-view, then_rows}
 use Rattle.base_table.proofs.table.Table.rollback.Goals as goal
-use Rattle.std.proofs.Common.{if◌then◌else◌}
 use Rattle.base_table.proofs.Placed.{rows_in-placed}
 use Rattle.base_table.proofs.Columns.{picked-map}
 

@@ -77,27 +77,23 @@ returns-in-Err-clause-images g c = rw (c.drop_images.ensures.rest) (over-none c.
 
 pub returns-in-Ok-clause-state : goal.returns-in-Ok-clause-state
 returns-in-Ok-clause-state g c =
-    err-then c.make_changes.result
-    (λ (same : c.make_changes.new.self ≡ c.drop_images.new.self). ap (λ (w : Contents). w.state) (same
-    ∙ c.drop_images.ensures.rest)) c.make_changes.ensures.same
+    err-then c.make_changes.result (λ (same : c.make_changes.new.self ≡ c.drop_images.new.self).
+    ap (λ (w : Contents). w.state) (same ∙ c.drop_images.ensures.rest)) c.make_changes.ensures.same
 
 pub returns-in-Ok-clause-tree : goal.returns-in-Ok-clause-tree
 returns-in-Ok-clause-tree g c =
-    err-then c.make_changes.result
-    (λ (same : c.make_changes.new.self ≡ c.drop_images.new.self). ap (λ (w : Contents). w.tree) (same
-    ∙ c.drop_images.ensures.rest)) c.make_changes.ensures.same
+    err-then c.make_changes.result (λ (same : c.make_changes.new.self ≡ c.drop_images.new.self).
+    ap (λ (w : Contents). w.tree) (same ∙ c.drop_images.ensures.rest)) c.make_changes.ensures.same
 
 pub returns-in-Ok-clause-index : goal.returns-in-Ok-clause-index
 returns-in-Ok-clause-index g c =
-    err-then c.make_changes.result
-    (λ (same : c.make_changes.new.self ≡ c.drop_images.new.self). ap (λ (w : Contents). w.index) (same
-    ∙ c.drop_images.ensures.rest)) c.make_changes.ensures.same
+    err-then c.make_changes.result (λ (same : c.make_changes.new.self ≡ c.drop_images.new.self).
+    ap (λ (w : Contents). w.index) (same ∙ c.drop_images.ensures.rest)) c.make_changes.ensures.same
 
 pub returns-in-Ok-clause-no_images : goal.returns-in-Ok-clause-no_images
 returns-in-Ok-clause-no_images g c =
-    err-then c.make_changes.result
-    (λ (same : c.make_changes.new.self ≡ c.drop_images.new.self). ap (λ (w : Contents). w.images) (same
-    ∙ c.drop_images.ensures.rest)) c.make_changes.ensures.same
+    err-then c.make_changes.result (λ (same : c.make_changes.new.self ≡ c.drop_images.new.self).
+    ap (λ (w : Contents). w.images) (same ∙ c.drop_images.ensures.rest)) c.make_changes.ensures.same
 
 pub returns-in-Ok-clause-images : goal.returns-in-Ok-clause-images
 returns-in-Ok-clause-images g c = c.make_changes.ensures.images
