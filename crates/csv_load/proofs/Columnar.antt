@@ -10,8 +10,8 @@ use Rattle.std.proofs.lemmas.List.FromFn.{length-map-range_with_len, get_or-map-
 use Rattle.std.proofs.Math.Nat.{mul-le-mul_left}
 use Rattle.cube_defs.specs.Rows.{Row}
 use Rattle.cube_defs.specs.Text.{Text}
-use Rattle.csv_load.specs.Batch.{Adds, AreChanges, Batch, Change, Delete, HasChange, Insert, IsChange, IsLoaded, change_at_place, change_with}
-use Rattle.csv_load.specs.Batch.{id_of, inserted, is_deletion, row_at_place, row_of}
+use Rattle.csv_load.specs.Batch.{Adds, AreChanges, Batch, Change, Delete, HasChange, Insert, IsChange, IsLoaded, change_at_place}
+use Rattle.csv_load.specs.Batch.{change_with, id_of, inserted, is_deletion, row_at_place, row_of}
 use Rattle.csv_load.specs.declared.changes.ChangeColumns.{ChangeColumns}
 use Rattle.csv_load.proofs.Ranges.{range-append, range-after, same-below, get_or-range}
 use Rattle.cube_defs.specs.declared.limits.TheConstants.{MAX_AMOUNT}
