@@ -25,10 +25,10 @@ length-all dims measures changes
     = length-map-range_with_len (change_at_place dims measures changes) 0 (length changes.ids.items)
 
 -- the place of the k-th change is in the columns
-pub place-within : {dims measures : ℕ} {changes : ChangeColumns} {b : Batch} {k : ℕ}
+pub change-within : {dims measures : ℕ} (changes : ChangeColumns) {b : Batch} {k : ℕ}
     → record { dims = dims; measures = measures; changes = all_in dims measures changes } ≡ b → HasChange b.changes k
     → k - 1 < length changes.ids.items
-place-within {dims} {measures} {changes} is has = omega (
+change-within {dims} {measures} changes is has = omega (
   arith,
   has.first,
   has.last,

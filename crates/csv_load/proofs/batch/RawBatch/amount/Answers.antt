@@ -3,13 +3,13 @@ use Rattle.std.proofs.lemmas.Int.{to_z-of_z}
 use Rattle.std.proofs.lemmas.List.{get_or_read}
 use Rattle.csv_load.specs.Batch.{Batch, Delete, amount_at, change_at, is_deletion}
 use Rattle.csv_load.proofs.Amounts.{abs-fits}
-use Rattle.csv_load.proofs.Columnar.{all_in, amount-at, amount-small, below-all, place-within}
+use Rattle.csv_load.proofs.Columnar.{all_in, amount-at, amount-small, below-all, change-within}
 use Rattle.csv_load.proofs.batch.RawBatch.amount.Goals as goal
 
 pub index-requires : goal.index-requires
 index-requires c =
     let inside = c.self.inside in
-    let lt = place-within c.self.view_is c.requires.insertion.there in
+    let lt = change-within inside.changes c.self.view_is c.requires.insertion.there in
     let measure : c.args.measure + 1 ≤ inside.measures
     = omega (arith, c.requires.measure, ap (λ (b : Batch). b.measures) c.self.view_is) in
     omega (
@@ -21,7 +21,7 @@ index-requires c =
 pub returns : goal.returns
 returns c =
     let inside = c.self.inside in
-    let lt = place-within c.self.view_is c.requires.insertion.there in
+    let lt = change-within inside.changes c.self.view_is c.requires.insertion.there in
     let measure : c.args.measure < inside.measures
     = omega (arith, c.requires.measure, ap (λ (b : Batch). b.measures) c.self.view_is) in
     let is : is_deletion (change_at (all_in inside.dims inside.measures inside.changes) c.args.k) ≡ false
