@@ -1,11 +1,11 @@
-use Rattle.std.proofs.Common.{◌∙◌, ◌-◌, sym, ap}
+use Rattle.std.proofs.Common.{◌∙◌, ◌-◌, arith, sym, ap}
 use Rattle.std.proofs.lemmas.List.{get_or_read}
 use Rattle.csv_load.specs.Batch.{Batch, Delete, change_at, id_of}
 use Rattle.csv_load.proofs.Columnar.{change-within, id-at}
 use Rattle.csv_load.proofs.batch.RawBatch.id.Goals as goal
 
 pub index-requires : goal.index-requires
-index-requires c = change-within c.self.inside.changes c.self.view_is c.requires
+index-requires c = omega (arith, change-within c.self.inside.changes c.self.view_is c.requires)
 
 pub returns : goal.returns
 returns c =
