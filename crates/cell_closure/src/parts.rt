@@ -1,5 +1,6 @@
 // Groups of rows by code.
 ghost use Rattle.std.specs.Prelude.{All, IfOk, OnErr, [], length, map, slice_index_or, ℕ, ◌+◌, ◌<◌, ◌≡◌, ◌≤◌};
+ghost use Rattle.base_table.specs.Places.{AreThere};
 ghost use Rattle.cell_closure.specs.Parts.{no_part, parted};
 ghost use Rattle.cell_closure.specs.Runs.{no_row, pieces, runs};
 
@@ -95,13 +96,17 @@ impl Parts {
 }
 
 /// Groups rows by their codes in the dimension. Each part has its rows in the given order.
-pub fn part(alloc: Global, rows: &TableRows<'_, Table>, dim: u8) -> Result<Parts, Memory>
-    requires { dim < rows.now.table.now.dims }
-    ensures { IfOk result
-        (λ parts. parts ≡ parted rows.now.table.now rows.now.numbers.now dim) }
+pub fn part(alloc: Global, table: &Table, rows: &[RowNo], dim: u8) -> Result<Parts, Memory>
+    requires there { AreThere table.now rows.now }
+    requires dim { dim < table.now.dims }
+    ensures { IfOk result (λ parts. parts ≡ parted table.now rows.now dim) }
 {
     let mut parts = Parts::new(alloc);
-    parts.regroup(rows, dim)?;
+    let rows = TableRows {
+        table,
+        numbers: rows,
+    };
+    parts.regroup(&rows, dim)?;
     Ok(parts)
 }
 

@@ -48,11 +48,7 @@ fn are_parts(
         return Ok(false);
     }
     let nos = table.all(alloc)?;
-    let all = TableRows {
-        table,
-        numbers: &nos,
-    };
-    let parts = part(alloc, &all, dim)?;
+    let parts = part(alloc, table, &nos, dim)?;
     let pairs = pairs_of(alloc, &parts)?;
     Ok(pairs.as_slice() == want)
 }
