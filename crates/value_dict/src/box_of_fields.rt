@@ -114,21 +114,15 @@ fn known_codes(dict: &Dict, alloc: Global, dim: u8, texts: &Texts) -> Result<Vec
 }
 
 impl Dict {
-    /// The codes of the texts from `low` to `high`, both included, in the order of the texts'
+    /// The codes of the texts from `lo` to `hi`, both included, in the order of the texts'
     /// bytes.
-    pub fn between(
-        &self,
-        alloc: Global,
-        dim: u8,
-        low: &str,
-        high: &str,
-    ) -> Result<Vec<Code>, Memory>
+    pub fn between(&self, alloc: Global, dim: u8, lo: &str, hi: &str) -> Result<Vec<Code>, Memory>
         requires { dim < length self.now.lists }
         ensures value { IfOk result (λ codes. map (text_in self.now.lists dim) codes.items
-            ≡ distinct text_cmp (filter (is_between low.now high.now) (list_at self.now dim))) }
+            ≡ distinct text_cmp (filter (is_between lo.now hi.now) (list_at self.now dim))) }
         ensures within { IfOk result (λ codes. HaveTexts self.now.lists dim codes.items) }
     {
-        let codes = codes_between(self, alloc, dim, low, high)?;
+        let codes = codes_between(self, alloc, dim, lo, hi)?;
         Ok(in_order(self, dim, codes))
     }
 
