@@ -1,7 +1,6 @@
 //! Tests of what lies below a tree: cells, texts, numbers, files, records and drawn files; what a
-//! schema, a batch and a line say,
-//! dictionaries of texts, tables of rows, and what rows share. Each has its cases in a table, which
-//! one small loop goes through.
+//! schema, a batch and a line say, dictionaries of texts, tables of rows, and what rows share. Each
+//! has its cases in a table, which one small loop goes through.
 #![tactic(auto)]
 
 #[cfg(test)]

@@ -92,8 +92,7 @@ static LIMITS: [Reading; 5] = [
 static PIECES: [usize; 4] = [1, 3, 10, 100];
 
 // A whole reading in pieces of three is one `open` and five `read`s, the last at the end. The call
-// that fails is of the first
-// reading or of the second, and the third has none.
+// that fails is of the first reading or of the second, and the third has none.
 static FIRST_FAILS: [Reading; 3] = [
     ("ten", 10, End::Failed),
     ("ten", 10, End::Whole(b"0123456789")),

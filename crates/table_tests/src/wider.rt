@@ -50,8 +50,7 @@ fn are_codes(table: &Table, place: u32, want: &[Code]) -> bool {
 }
 
 // A batch: the code that the rows get, the row that goes then, whether it is kept, and the codes at
-// the
-// two places after it.
+// the two places after it.
 struct Batch {
     code: Code,
     deleted: u64,

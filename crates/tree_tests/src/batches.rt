@@ -63,8 +63,7 @@ fn close(arena: &mut QcArena, keep: bool)
 }
 
 // Adds a node with a value in a new dimension, and keeps that or takes it back. How many dimensions
-// and nodes
-// there are before and after.
+// and nodes there are before and after.
 fn widened<L: Ledger>(alloc: Global, keep: bool, steps: &mut Steps<L>) -> [(u8, u32); 2] {
     let Some((mut arena, root)) = planted(alloc, steps) else {
         return [(0, 0); 2];
@@ -142,8 +141,7 @@ fn added_and_removed(alloc: Global, arena: &QcArena) -> Option<(usize, usize)>
 }
 
 // Keeps the class of a node, and takes it away in a batch of its own. How many classes were added
-// and removed before,
-// and how many with the node touched and then without its class.
+// and removed before, and how many with the node touched and then without its class.
 fn class_taken<L: Ledger>(
     alloc: Global,
     arena: &mut QcArena,
@@ -175,8 +173,7 @@ fn are_classes_told<L: Ledger>(alloc: Global, steps: &mut Steps<L>) -> bool {
 }
 
 /// Whether batches are kept and taken back: an edge, a dimension that stays, one that goes, a node,
-/// an edge that is dropped, and
-/// classes.
+/// an edge that is dropped, and classes.
 pub(crate) fn are_right<L: Ledger>(alloc: Global, steps: &mut Steps<L>) -> bool {
     is_taken_back(alloc, steps)
         && widened(alloc, true, steps) == [(4, 2), (4, 2)]

@@ -21,10 +21,8 @@ pub(crate) fn told(images: &Images, node: NodeNo) -> Told {
 }
 
 // Adds a root and a node under it, and in a second batch kills the node. What the first batch's
-// images
-// say of the node, what the second's say of root, node and a number without a node, and what is
-// said
-// of the root once they are moved out.
+// images say of the node, what the second's say of root, node and a number without a node, and what
+// is said of the root once they are moved out.
 fn looked<L: Ledger>(alloc: Global, steps: &mut Steps<L>) -> Option<[Told; 5]> {
     let (mut arena, root, child) = grown(alloc, steps)?;
     arena.commit();

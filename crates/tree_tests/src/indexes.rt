@@ -63,8 +63,7 @@ fn nodes_left(walk: &mut Walk<'_>) -> [u32; 6] {
 }
 
 // What qualifies with at least a value, and with at most the value, each with the entries read.
-// None where the value is no
-// fraction, or the index doesn't have the kind.
+// None where the value is no fraction, or the index doesn't have the kind.
 fn asked(index: &Index, kind: AggKind, value: &[u8]) -> Option<[([u32; 6], u64); 2]> {
     let value = read_fraction(value)?;
     if !index.has(kind) {

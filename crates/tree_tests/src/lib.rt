@@ -1,8 +1,7 @@
 //! Tests of an arena and of indexes, and of what builds a tree and repairs it: batches that are
-//! kept, taken back and stopped,
-//! before-images, single acts of building, classes in order of their values, the way down, and rows
-//! that come one by one, against
-//! trees that are built from scratch, record by record.
+//! kept, taken back and stopped, before-images, single acts of building, classes in order of their
+//! values, the way down, and rows that come one by one, against trees that are built from scratch,
+//! record by record.
 #![tactic(auto)]
 
 #[cfg(test)]

@@ -149,8 +149,7 @@ fn stopped_in_building<L: Ledger>(
 }
 
 // The numbers of all cells in a tree of few rows at first, after a kill, after a tree that was
-// built in part,
-// and after one that was built whole.
+// built in part, and after one that was built whole.
 fn found_each<L: Ledger>(
     alloc: Global,
     few: &Table,

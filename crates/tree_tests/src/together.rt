@@ -49,8 +49,7 @@ fn edit<L: Ledger>(arena: &mut QcArena, node: NodeNo, what: Change, steps: &mut 
 }
 
 // One of seven batches. The numbers of the root and of the node under it are 0 and 1, also where
-// both were
-// killed and are added again.
+// both were killed and are added again.
 fn batch<L: Ledger>(arena: &mut QcArena, number: u8, steps: &mut Steps<L>)
     requires { is_open arena.old ≡ false }
     ensures { is_open arena.new ≡ false }
@@ -82,8 +81,7 @@ fn images_of<L: Ledger>(alloc: Global, last: u8, steps: &mut Steps<L>) -> Option
 }
 
 // The images of an older batch put over those of a later one, of how many numbers they speak, and
-// what they say of
-// the root and of the node under it.
+// what they say of the root and of the node under it.
 type Case = (u8, u8, usize, Told, Told);
 
 const SAME: Told = None;

@@ -29,8 +29,7 @@ fn root_before(shop: &mut Warehouse) -> Option<Option<u32>> {
 }
 
 // Whether the root had the edge of Bonn alone, which all rows shared, before another city came; and
-// whether
-// images are there once, and none after a refusal.
+// whether images are there once, and none after a refusal.
 fn tell_of_the_root<L: Ledger>(shop: &mut Warehouse, steps: &mut Steps<L>) -> bool {
     let (loaded, again) = (root_before(shop), root_before(shop));
     let came = apply(shop, PLUS, steps);

@@ -1,11 +1,9 @@
 //! Runs scripts of base files, batches and new dimensions over whole warehouses. After each step
-//! the tree is compared, record by
-//! record, with one that is built from scratch, and each node that the rows left after the
-//! deletions have too keeps its number.
-//! Some have the whole tree as a text. Beside them before-images, range queries, which bytes are a
-//! snapshot, and pins: whatever
-//! batches come after a pin, it answers points, ranges, icebergs and classes as a plain filter of
-//! the rows that were there.
+//! the tree is compared, record by record, with one that is built from scratch, and each node that
+//! the rows left after the deletions have too keeps its number. Some have the whole tree as a text.
+//! Beside them before-images, range queries, which bytes are a snapshot, and pins: whatever batches
+//! come after a pin, it answers points, ranges, icebergs and classes as a plain filter of the rows
+//! that were there.
 #![tactic(auto)]
 
 ghost use Rattle.std.specs.Prelude.{◌<◌, ◌≡◌};

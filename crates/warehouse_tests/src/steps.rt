@@ -11,8 +11,7 @@ use tree_records::{Line, are_kept, are_same, cells};
 use warehouse::{Refused, Warehouse, WidenRefused};
 
 // What a script begins with: its schema, the schema of warehouses that load the rows after a step,
-// and a base file and a batch by
-// which the values in these get their codes.
+// and a base file and a batch by which the values in these get their codes.
 #[derive(Clone, Copy)]
 struct Start<'a> {
     schema: &'a str,

@@ -4,8 +4,7 @@ ghost use Rattle.std.specs.declared.alloc.Global.{Global};
 ghost use Rattle.qc_session.specs.Forms.{Gen, form_of};
 
 /// The most rows that are drawn, with zeros in front, and the greatest seed are a form of the
-/// words. Such a run takes too long
-/// for a folder.
+/// words. Such a run takes too long for a folder.
 pub fn greatest_numbers()
     ensures { (word rows seed : String Global) → string_bytes word ≡ codes "gen"
         → string_bytes rows ≡ codes "000001000000"

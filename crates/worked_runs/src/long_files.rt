@@ -1,8 +1,6 @@
 // The files of some folders that are too long to be kept: as many values as a range may have cells,
-// with the reply that has them
-// all; half a million rows of one dimension, with as many points and their replies; and values that
-// share their hash if it has no
-// keys.
+// with the reply that has them all; half a million rows of one dimension, with as many points and
+// their replies; and values that share their hash if it has no keys.
 
 use std::alloc::{AllocError, Global};
 use std::{fs, io};
@@ -21,8 +19,7 @@ enum Line {
     /// The reply to the point.
     Reply,
     /// A row whose value has the same hash as the others under the kit's default hasher: after the
-    /// first 24 bytes its state is 0,
-    /// and the next 8 don't change it.
+    /// first 24 bytes its state is 0, and the next 8 don't change it.
     OneHash,
 }
 

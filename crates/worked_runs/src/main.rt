@@ -1,6 +1,5 @@
 //! Runs `qcube` in each folder of `runs`, and compares its status and what it writes with what the
-//! folder says. Then it makes the
-//! runs that no folder can show: over files and sinks that fail.
+//! folder says. Then it makes the runs that no folder can show: over files and sinks that fail.
 #![tactic(auto)]
 
 mod expected;

@@ -85,8 +85,7 @@ fn run_in(
 }
 
 /// Runs `qcube` in a folder of `runs`, under hash keys that are drawn for it, and gathers what it
-/// is to write. Says whether that is
-/// as expected, or what isn't.
+/// is to write. Says whether that is as expected, or what isn't.
 pub fn judge(rt: &HostRuntime, name: &str, spoken: &mut Spoken) -> io::Result<String> {
     let folder = format!(in rt.alloc(); "runs/{name}")?;
     let expected = Expected::read(rt, folder.as_str())?;
