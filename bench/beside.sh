@@ -1,8 +1,9 @@
 #!/usr/bin/env bash
 # Measures PROGRAM beside another program of the same words and replies, on the same inputs, in turn. Prints ratios of the median
 # processor times of five runs, and of the median peak memory. The runs are: loads of 300,000, 50,000 and 400,000 rows of 6 skewed
-# dimensions; points after a load, ranges, bounds, parents and children of classes; icebergs by a walk and by indexes; what three
-# index lines add to a load; batches with and without them; 500,000 rows and points of one dimension; and generated runs.
+# dimensions; a load and a new dimension; points after a load, ranges, bounds, parents and children of classes; icebergs by a walk and
+# by indexes; what three index lines add to a load; batches with and without them; 500,000 rows and points of one dimension; one
+# answer of 100,000 cells; a snapshot that is packed and opened; and generated runs.
 #
 #     bench/beside.sh [OTHER [PROGRAM]]
 #
@@ -67,10 +68,20 @@ for batch in range(100):
             file.write(f"-,{present.pop()},,,,,,,\n")
         file.writelines("+," + record for record in records[300_000 + 200 * batch : 300_200 + 200 * batch])
 script("batches", (f"apply batch{batch}.csv" for batch in range(100)))
+with open("wide.schema", "w") as file:
+    file.write(f"qcube 2\nid id\n{dims}measure sale 2\nnodes 4000000\n")
+script("widened", ["widen region west"])
+with open("none", "w") as file:
+    pass
 with open("one.schema", "w") as file:
     file.write("qcube 1\nid id\ndim v\n")
 with open("one.csv", "w") as file:
     file.write("id,v\n" + "".join(f"{row},v{row * 7919 % 1_000}\n" for row in range(1, 500_001)))
+with open("many.csv", "w") as file:
+    file.write("id,v\n" + "".join(f"{row},w{row * 7_919 % 100_003}\n" for row in range(1, 100_001)))
+for name, query in (("many", ""), ("cells", "range ?\n")):
+    with open(name, "w") as file:
+        file.write("load many.csv\n" + query)
 with open("one", "w") as file:
     file.write("load one.csv\n" + "".join(f"point v{row * 104_729 % 1_100}\n" for row in range(500_000)))
 PY
@@ -117,12 +128,22 @@ say("    its peak", load[0][1], load[1][1], "MiB", 1.2)
 bounds = {"points": 1.1, "parents": 1.5, "children": 1.5}
 for name in ("points", "bounds", "parents", "children", "ranges", "icebergs", "batches"):
     behind(name, name, "rows.schema", load, bounds.get(name, 1.25))
+widened = medians("run", "wide.schema", "widened")
+say("load and widen", widened[0][0], widened[1][0], "s", 1.1)
+say("    their peak", widened[0][1], widened[1][1], "MiB", 1.0)
 indexed = medians("run", "indexed.schema", "load300000")
 say("what three index lines add", indexed[0][0] - load[0][0], indexed[1][0] - load[1][0], "s", 1.25)
 for name in ("icebergs", "batches"):
     behind(f"{name} with three indexes", name, "indexed.schema", indexed, 1.25)
 one = medians("run", "one.schema", "one")
 say("500,000 rows and points of one dimension", one[0][0], one[1][0], "s", 1.25)
+behind("one answer of 100,000 cells", "cells", "one.schema", medians("run", "one.schema", "many"), 1.1)
+packed = medians("pack", "rows.schema", "load300000")
+say("pack", packed[0][0], packed[1][0], "s", 1.0)
+with open("snapshot", "wb") as file:
+    subprocess.run([programs[0], "pack", "rows.schema", "load300000"], stdout=file, check=True)
+opened = medians("open", "snapshot", "none")
+say("open", opened[0][0], opened[1][0], "s", 1.0)
 small, large = medians("run", "rows.schema", "load50000"), medians("run", "rows.schema", "load400000")
 growth = [large[k][0] / small[k][0] for k in (0, 1)]
 print(f"400,000 rows take {growth[0]:.1f} times as long as 50,000 (at most 8.5), the other program {growth[1]:.1f} times")
