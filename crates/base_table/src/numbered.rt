@@ -6,6 +6,9 @@ ghost use Rattle.std.proofs.lemmas.Bool.{eqb-true};
 
 use crate::fingerprints::PRIME;
 
+/// So many ids in a row have numbers in a row, so their buckets are neighbours.
+const NEIGHBOURS: u32 = 16;
+
 /// A key that has a number under each multiplier. Equal keys have equal numbers.
 pub trait Numbered: Eq {
     ghost number: { ℕ → Self → ℕ };
@@ -36,17 +39,18 @@ fn step(number: u64, multiplier: u32, coefficient: u32) -> u64
     (number * u64::from(multiplier) + u64::from(coefficient)) % PRIME
 }
 
-/// The number of an id is a polynomial at the multiplier. Its coefficients are the two halves of
-/// the id and 0. So ids that share a bucket can't be chosen without the multiplier. No contract
-/// says so.
+/// The number of an id is a polynomial at the multiplier. Its coefficients are the upper half of the
+/// id, and the lower half divided by 16 and modulo 16. So ids that share a bucket can't be chosen
+/// without the multiplier. No contract says so.
 impl Numbered for u64 {
     ghost number = { id_number };
 
     ghost respects_eq = { λ m x y equal. ap (id_number m) (eqb-true x y equal) };
 
     fn number(&self, multiplier: u32) -> u32 {
-        let high = step(0, multiplier, (*self / 4_294_967_296) as u32);
-        let both = step(high, multiplier, (*self % 4_294_967_296) as u32);
-        step(both, multiplier, 0) as u32
+        let lower = (*self % 4_294_967_296) as u32;
+        let upper = step(0, multiplier, (*self / 4_294_967_296) as u32);
+        let both = step(upper, multiplier, lower / NEIGHBOURS);
+        step(both, multiplier, lower % NEIGHBOURS) as u32
     }
 }

@@ -16,9 +16,10 @@ loop-item-preserved g c =
     = c.item-item.is ∙ ap (λ (ys : List _). get_or ys i x) c.deref-item-items.ensures.value in
     record {
       has = λ q. added_lack g.met.K.Ord.total xs c.args.others.now c.loop-item.out.items i x q within at (was.has q)
-          c.note.new.came.items _ (ap not c.is_among.ensures) c.note.ensures.items;
+          c.note.new.came.items _ (ap not c.is_at.ensures) c.note.ensures.items;
       noted = omega (arith, c.note.ensures.len, was.noted);
       room = omega (arith, c.note.ensures.room, was.room);
+      within = c.place_near-place.ensures.within;
     }
 
 pub loop-item-init : goal.loop-item-init
@@ -28,6 +29,7 @@ loop-item-init g c =
       has = λ q. ap (λ (xs : List _). among g.K.Ord.cmp xs q) made.items;
       noted = omega (arith, made.len);
       room = omega (arith, made.exact, c.len.ensures);
+      within = omega arith;
     }
 
 pub note-requires : goal.note-requires

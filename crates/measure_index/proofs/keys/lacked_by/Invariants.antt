@@ -1,4 +1,4 @@
-use Rattle.std.proofs.Common.{◌≡◌, ◌≤◌, ◌&&◌, not, take, vec_capacity, vec_len}
+use Rattle.std.proofs.Common.{◌≡◌, ◌≤◌, ◌&&◌, length, not, take, vec_capacity, vec_len}
 use Rattle.measure_index.specs.Keys.{among}
 use Rattle.measure_index.proofs.keys.lacked_by.Given as goal
 
@@ -9,4 +9,5 @@ invariant-loop-item g l = record {
       && not (among g.K.Ord.cmp l.others q));
   noted : vec_len l.out ≤ l.item-index;
   room : vec_len l.items ≤ vec_capacity l.out;
+  within : l.place ≤ length l.others;
 }
