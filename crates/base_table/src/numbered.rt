@@ -39,9 +39,9 @@ fn step(number: u64, multiplier: u32, coefficient: u32) -> u64
     (number * u64::from(multiplier) + u64::from(coefficient)) % PRIME
 }
 
-/// The number of an id is a polynomial at the multiplier. Its coefficients are the upper half of the
-/// id, and the lower half divided by 16 and modulo 16. So ids that share a bucket can't be chosen
-/// without the multiplier. No contract says so.
+/// The number of an id is a polynomial at the multiplier. Its coefficients are the upper half of
+/// the id, and the lower half divided by 16 and modulo 16. So ids that share a bucket can't be
+/// chosen without the multiplier. No contract says so.
 impl Numbered for u64 {
     ghost number = { id_number };
 

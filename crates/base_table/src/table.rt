@@ -77,8 +77,7 @@ const MOST_PLACES: usize = 4_000_000_000;
 
 impl Table {
     /// A table without rows, under fixed hash keys: ids and tuples that are chosen to collide make
-    /// it
-    /// slow. No batch is open.
+    /// it slow. No batch is open.
     pub fn new(alloc: Global, dims: u8, measures: u8, max: u32) -> Result<Table, Memory>
         requires some_dims { 0 < dims }
         requires few_dims { dims ≤ MAX_DIMS }

@@ -12,8 +12,7 @@ use std::sync::ledger::Ledger;
 use warehouse::{PartsRefused, Warehouse};
 
 /// Does what `decode_with_keys` does, under fixed keys: a file of texts that are chosen to collide
-/// is
-/// slow.
+/// is slow.
 pub fn decode<L: Ledger>(
     alloc: Global,
     bytes: &[u8],

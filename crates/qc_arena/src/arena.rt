@@ -43,8 +43,7 @@ use std::sync::ledger::Ledger;
 
 /// A new arena has room for so many nodes. The C library gives each such list pages of its own, and
 /// makes it longer by mapping them elsewhere. A list that starts small is copied at each growth,
-/// and
-/// leaves holes.
+/// and leaves holes.
 const FIRST_ROOM: usize = 8_192;
 
 /// Why a node was not added.

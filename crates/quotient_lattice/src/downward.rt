@@ -129,9 +129,8 @@ pub(crate) fn found_children<T: Nodes, L: Ledger>(
 }
 
 /// The nodes of all children of a class, in cell order by the texts of the dictionary. With n
-/// dimensions,
-/// and E edges at the nodes from the root to the class's, it takes at most 16 (n + 1) (E + 1)
-/// steps.
+/// dimensions, and E edges at the nodes from the root to the class's, it takes at most
+/// 16 (n + 1) (E + 1) steps.
 pub fn children<T: Nodes, L: Ledger>(
     alloc: Global,
     tree: &T,

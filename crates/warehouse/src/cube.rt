@@ -48,8 +48,7 @@ impl Cube {
     }
 
     /// Rolls the batch back: rows and tree are again those at its begin, and each dimension is cut
-    /// to
-    /// so many texts.
+    /// to so many texts.
     pub(crate) fn roll_back(&mut self, lens: &[u32])
         requires rows { is_some self.old.table.was ≡ true }
         requires tree { is_open self.old.tree ≡ true }
