@@ -72,11 +72,9 @@ impl Ord for Key {
 
     ghost matches_eq = { λ x y. refl };
 
-    // All divisors are 1 but those of means.
+    // The products are always computed. A test for equal divisors would be a branch that a sort of
+    // means mispredicts.
     fn cmp(&self, other: &Key) -> Ordering {
-        if self.den == other.den {
-            return self.num.cmp(&other.num).then(self.node.cmp(&other.node));
-        }
         let value = times(i128::from(self.num), u64::from(other.den));
         let other_value = times(i128::from(other.num), u64::from(self.den));
         value.cmp(&other_value).then(self.node.cmp(&other.node))
