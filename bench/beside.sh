@@ -1,6 +1,6 @@
 #!/usr/bin/env bash
 # Measures PROGRAM beside another program of the same words and replies, on the same inputs, in turn. Prints ratios of the median
-# processor times of five runs, and of the median peak memory. The runs are: loads of 300,000, 50,000 and 400,000 rows of 6 skewed
+# processor times of five runs, of the least, and of the median peak memory. The runs are: loads of 300,000, 50,000 and 400,000 rows of 6 skewed
 # dimensions; a load and a new dimension; points after a load, ranges, bounds, parents and children of classes; icebergs by a walk and
 # by indexes; what three index lines add to a load; batches with and without them; 500,000 rows and points of one dimension; one
 # answer of 100,000 cells; a snapshot that is packed and opened; and generated runs.
@@ -10,7 +10,8 @@
 # OTHER is the other program, or a folder whose `build.sh` builds it and prints its path. If it is missing or empty, it is the
 # plain program (bench/plain), a hand-written Rust program without proofs, which cargo builds. PROGRAM is the built program, by
 # default crates/qcube/out/qcube. RUNS sets another number of runs. The inputs are generated from fixed seeds. Both programs must
-# write the same replies. A time "after its load" is the median of the whole script minus that of its load.
+# write the same replies. A time "after its load" is that of the whole script minus that of its load. On a machine with other work
+# the least times tell more than the medians.
 other=${1:+$(realpath "$1")}
 [ -d "$other" ] && other=$("$other/build.sh")
 [ $# -gt 0 ] && shift
@@ -106,48 +107,51 @@ def run(program, words):
     assert status == 0, (program, words)
     return usage.ru_utime + usage.ru_stime, usage.ru_maxrss / 1024, told.digest()
 
-def medians(*words):
-    """The median processor time and peak memory in MiB of each program."""
+def measured(*words):
+    """The median processor time, the median peak memory in MiB and the least processor time of each program."""
     runs = [[], []]
     for turn in range(RUNS):
         for which in (0, 1) if turn % 2 == 0 else (1, 0):
             runs[which].append(run(programs[which], words))
     assert len({told for one in runs for _, _, told in one}) == 1, words
-    return [tuple(statistics.median(values[k] for values in one) for k in (0, 1)) for one in runs]
+    return [(*(statistics.median(values[k] for values in one) for k in (0, 1)), min(values[0] for values in one)) for one in runs]
 
-def say(name, ours, theirs, unit, most):
-    print(f"{name}: {ours:.3f} and {theirs:.3f} {unit}, {ours / theirs:.2f} times (at most {most})", flush=True)
+def ratio(ours, theirs, unit):
+    return f"{ours:.3f} and {theirs:.3f} {unit}, {ours / theirs:.2f} times"
+
+def say_times(name, both, most, before=((0, 0, 0), (0, 0, 0))):
+    """Prints the times of both programs less those before."""
+    median, least = (ratio(both[0][k] - before[0][k], both[1][k] - before[1][k], "s") for k in (0, 2))
+    print(f"{name}: {median} (at most {most}); the least {least}", flush=True)
+
+def say_peaks(both, most):
+    print(f"    peak: {ratio(both[0][1], both[1][1], 'MiB')} (at most {most})", flush=True)
 
 def behind(name, script, schema, load, most):
-    both = medians("run", schema, script)
-    say(f"{name}, after its load", both[0][0] - load[0][0], both[1][0] - load[1][0], "s", most)
+    say_times(f"{name}, after its load", measured("run", schema, script), most, load)
 
-load = medians("run", "rows.schema", "load300000")
-say("load of 300,000 rows", load[0][0], load[1][0], "s", 1.25)
-say("    its peak", load[0][1], load[1][1], "MiB", 1.2)
+load = measured("run", "rows.schema", "load300000")
+say_times("load of 300,000 rows", load, 1.25)
+say_peaks(load, 1.2)
 bounds = {"points": 1.1, "parents": 1.5, "children": 1.5}
 for name in ("points", "bounds", "parents", "children", "ranges", "icebergs", "batches"):
     behind(name, name, "rows.schema", load, bounds.get(name, 1.25))
-widened = medians("run", "wide.schema", "widened")
-say("load and widen", widened[0][0], widened[1][0], "s", 1.1)
-say("    their peak", widened[0][1], widened[1][1], "MiB", 1.0)
-indexed = medians("run", "indexed.schema", "load300000")
-say("what three index lines add", indexed[0][0] - load[0][0], indexed[1][0] - load[1][0], "s", 1.25)
+widened = measured("run", "wide.schema", "widened")
+say_times("load and widen", widened, 1.1)
+say_peaks(widened, 1.0)
+indexed = measured("run", "indexed.schema", "load300000")
+say_times("what three index lines add", indexed, 1.25, load)
 for name in ("icebergs", "batches"):
     behind(f"{name} with three indexes", name, "indexed.schema", indexed, 1.25)
-one = medians("run", "one.schema", "one")
-say("500,000 rows and points of one dimension", one[0][0], one[1][0], "s", 1.25)
-behind("one answer of 100,000 cells", "cells", "one.schema", medians("run", "one.schema", "many"), 1.1)
-packed = medians("pack", "rows.schema", "load300000")
-say("pack", packed[0][0], packed[1][0], "s", 1.0)
+say_times("500,000 rows and points of one dimension", measured("run", "one.schema", "one"), 1.25)
+behind("one answer of 100,000 cells", "cells", "one.schema", measured("run", "one.schema", "many"), 1.1)
+say_times("pack", measured("pack", "rows.schema", "load300000"), 1.0)
 with open("snapshot", "wb") as file:
     subprocess.run([programs[0], "pack", "rows.schema", "load300000"], stdout=file, check=True)
-opened = medians("open", "snapshot", "none")
-say("open", opened[0][0], opened[1][0], "s", 1.0)
-small, large = medians("run", "rows.schema", "load50000"), medians("run", "rows.schema", "load400000")
-growth = [large[k][0] / small[k][0] for k in (0, 1)]
+say_times("open", measured("open", "snapshot", "none"), 1.0)
+small, large = measured("run", "rows.schema", "load50000"), measured("run", "rows.schema", "load400000")
+growth = [large[k][2] / small[k][2] for k in (0, 1)]
 print(f"400,000 rows take {growth[0]:.1f} times as long as 50,000 (at most 8.5), the other program {growth[1]:.1f} times")
 for rows in ("20000", "200000"):
-    both = medians("gen", rows, "7")
-    say(f"gen {rows} 7", both[0][0], both[1][0], "s", 1.5)
+    say_times(f"gen {rows} 7", measured("gen", rows, "7"), 1.5)
 PY
