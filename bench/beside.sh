@@ -1,9 +1,9 @@
 #!/usr/bin/env bash
 # Measures PROGRAM beside another program of the same words and replies, on the same inputs, in turn. Prints ratios of the median
-# processor times of five runs, of the least, and of the median peak memory. The runs are: loads of 300,000, 50,000 and 400,000 rows of 6 skewed
-# dimensions; a load and a new dimension; points after a load, ranges, bounds, parents and children of classes; icebergs by a walk and
-# by indexes; what three index lines add to a load; batches with and without them; 500,000 rows and points of one dimension; one
-# answer of 100,000 cells; a snapshot that is packed and opened; and generated runs.
+# processor times of five runs, of the least, and of the median peak memory. The runs are: loads of 300,000, 50,000 and 400,000 rows
+# of 6 skewed dimensions; a load and a new dimension; points after a load, ranges, bounds, parents and children of classes; icebergs
+# by a walk and by indexes; what three index lines add to a load; batches with and without them; 500,000 rows and points of one
+# dimension; one answer of 100,000 cells; a snapshot that is packed and opened; and generated runs.
 #
 #     bench/beside.sh [OTHER [PROGRAM]]
 #
