@@ -26,7 +26,7 @@ use crate::nodes::{Forced, Nodes};
 use crate::place::NodeSlot;
 use crate::records::NodeRecord;
 use crate::slots::{
-    add_record, class_at, copy_at, drop_edge_at, free_killed, kill_at, record_of, reserve_edges_at,
+    add_record, class_at, copy_at, drop_edge_at, free_places, kill_at, record_of, reserve_edges_at,
     resize_all, resize_from, restore_all, set_class_at, set_edge_at, set_forced_at,
 };
 use crate::touched::Touched;
@@ -418,7 +418,7 @@ impl QcArena {
         ensures back { IfSome self.old.was (λ shape. shape.width ≡ self.old.width
             → overlaid self.new.last self.new.now ≡ shape.tree) }
     {
-        free_killed(&mut self.nodes, &self.images);
+        free_places(&mut self.nodes, &self.images, self.kept.nodes);
         self.last = self.images.take();
         self.is_open = false;
         self.dims_then = self.dims;

@@ -96,8 +96,33 @@ impl MeasureColumns {
         })
     }
 
+    // Whether there is room for the parts of a node.
+    fn has_room(&self, node: u32) -> bool
+        ensures { IsTrue result → HasRoom self.now node }
+    {
+        let place = node as usize;
+        place < self.first.capacity()
+            && place < self.second.capacity()
+            && place < self.third.capacity()
+            && place < self.fourth.capacity()
+    }
+
     // Makes room for the parts of a node. The room is only set aside, and isn't written yet.
     pub(crate) fn reserve(&mut self, node: u32) -> Result<(), Memory>
+        ensures same { (q : ℕ) → shown self.new q ≡ shown self.old q }
+        ensures ok { OnOk result (HasRoom self.new node) }
+        ensures room { (q : ℕ) → HasRoom self.old q → HasRoom self.new q }
+    {
+        if self.has_room(node) {
+            return Ok(());
+        }
+        self.make_all_room(node)
+    }
+
+    // Makes room in each column.
+    #[cold]
+    #[inline(never)]
+    fn make_all_room(&mut self, node: u32) -> Result<(), Memory>
         ensures same { (q : ℕ) → shown self.new q ≡ shown self.old q }
         ensures ok { OnOk result (HasRoom self.new node) }
         ensures room { (q : ℕ) → HasRoom self.old q → HasRoom self.new q }

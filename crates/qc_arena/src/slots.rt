@@ -1,6 +1,7 @@
 // Operations on the places of nodes and on their before-images.
 ghost use Rattle.std.specs.Prelude.{IfOk, IfSome, IsSome, None, OnErr, OnOk, Some, [], if◌then◌else◌, is_some, length, nat_eq, true, ℕ, ◌<◌, ◌≡◌, ◌≢◌, ◌≤◌};
 ghost use Rattle.cell_core.specs.Entry.{IsCode};
+ghost use Rattle.std.specs.FinMap as map;
 ghost use Rattle.std.specs.Option.{option_map};
 ghost use Rattle.std.specs.Ordering.{nat_cmp};
 ghost use Rattle.aggregates.specs.Views.{agg_in};
@@ -8,7 +9,7 @@ ghost use Rattle.slab.specs.Slab as slots;
 ghost use Rattle.cube_defs.specs.Cell.{cell_eq, depth};
 ghost use Rattle.tree_laws.specs.Counts.{is_parent_of};
 ghost use Rattle.qc_arena.specs.Edges.{edge_in, with_edge, without_edge};
-ghost use Rattle.qc_arena.specs.Inside.{IsRooted, image_at, image_or, join};
+ghost use Rattle.qc_arena.specs.Inside.{IsRooted, image_at, image_or, join, now_of};
 ghost use Rattle.qc_arena.specs.Map.{with_class, with_forced};
 ghost use Rattle.qc_arena.specs.Parts.{HasRoom, IsShown, IsStored, shown};
 ghost use Rattle.qc_arena.specs.Resized.{resized};
@@ -90,8 +91,21 @@ pub(crate) fn restore_all(
     }
 }
 
+// Frees the places of the killed nodes, if there are more places in use than nodes.
+pub(crate) fn free_places(nodes: &mut Slab<NodeSlot>, images: &Touched, live: u32)
+    requires placed { (q : ℕ) → IsSome (image_at images.now q) → slots.ContainsKey nodes.old q }
+    requires killed { (q : ℕ) → slots.get nodes.old q ≡ Some None → IsSome (image_at images.now q) }
+    requires live { live ≡ map.len (now_of nodes.old) }
+    ensures nodes { (q : ℕ) → join (slots.get nodes.new q) ≡ join (slots.get nodes.old q) }
+    ensures none_killed { (q : ℕ) → slots.get nodes.new q ≢ Some None }
+{
+    if nodes.len() != live as usize {
+        free_killed(nodes, images);
+    }
+}
+
 // Frees the places of the killed nodes.
-pub(crate) fn free_killed(nodes: &mut Slab<NodeSlot>, images: &Touched)
+fn free_killed(nodes: &mut Slab<NodeSlot>, images: &Touched)
     requires placed { (q : ℕ) → IsSome (image_at images.now q) → slots.ContainsKey nodes.old q }
     requires killed { (q : ℕ) → slots.get nodes.old q ≡ Some None → IsSome (image_at images.now q) }
     ensures nodes { (q : ℕ) → join (slots.get nodes.new q) ≡ join (slots.get nodes.old q) }

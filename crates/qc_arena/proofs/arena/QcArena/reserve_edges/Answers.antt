@@ -4,7 +4,7 @@ use Rattle.cube_defs.specs.Tree.{Tree}
 use Rattle.qc_arena.specs.Map.{Arena}
 use Rattle.qc_arena.specs.Inside.{begun, join, touched_in, was_of}
 use Rattle.qc_arena.proofs.ArenaSteps.{same_arena}
-use Rattle.qc_arena.proofs.SlotMaps.{in_slot, slots_same, there}
+use Rattle.qc_arena.proofs.SlotMaps.{in_slot, slots_same}
 use Rattle.qc_arena.proofs.Stored.{as_is, set_stored}
 use Rattle.qc_arena.proofs.arena.QcArena.reserve_edges.Goals as goal
 

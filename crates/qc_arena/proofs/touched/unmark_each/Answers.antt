@@ -3,7 +3,7 @@ use Rattle.std.specs.Map.{lookup}
 use Rattle.qc_arena.specs.Entries.{all_new}
 use Rattle.qc_arena.specs.Map.{Known}
 use Rattle.qc_arena.proofs.Suffixes.{length-all_new, marked_after, none_behind}
-use Rattle.qc_arena.proofs.touched.unmark_all.Goals as goal
+use Rattle.qc_arena.proofs.touched.unmark_each.Goals as goal
 use Rattle.cube_laws.proofs.CallerLemmas.{item_at, some_of}
 
 pub entries-preserved : goal.entries-preserved
