@@ -5,6 +5,7 @@ mod Costs
 mod CutScripts
 mod Ended
 mod FileNamed
+mod FileUses
 mod FileWords
 mod Found
 mod FlushLemmas

@@ -7,11 +7,23 @@ ghost use Rattle.qc_session.specs.Packs.{IsPackRefused, IsPackUnrefused, Packed}
 ghost use Rattle.qc_session.specs.Runs.{AllFilesKnown, Cause, Finished, IsRefused, IsStatus, IsUnrefused};
 ghost use Rattle.warehouse.specs.State.{State};
 
-use crate::scripts::run_with_keys;
+use crate::scripts::{Outcome, run_with_keys};
 use cell_core::HashKeys;
 use qc_io::{Files, Sink};
 use std::alloc::Global;
 use std::mem;
+
+// An outcome that is left to the system when the program ends.
+struct LeftOutcome {
+    outcome: Outcome,
+}
+
+impl Drop for LeftOutcome {
+    fn drop(self) {
+        let LeftOutcome { outcome } = self;
+        outcome.discard();
+    }
+}
 
 /// Runs as `run_with_keys` does, and answers the status alone. That call's promises about the lines
 /// that ran out of memory, and about the state at the end, hold here for some such lines and some
@@ -65,6 +77,6 @@ pub fn run_to_status<F: Files, O: Sink, E: Sink>(
 {
     let outcome = run_with_keys(alloc, keys, words, files, out, err);
     let status = outcome.status;
-    mem::forget(outcome);
+    mem::forget(LeftOutcome { outcome });
     status
 }
