@@ -1,7 +1,7 @@
-// Sorts of keys.
+// Sorting of keys.
 ghost use Rattle.std.specs.List.{All};
-ghost use Rattle.std.specs.Prelude.{true, ◌≡◌};
 ghost use Rattle.std.specs.List.Sorted.{IsPermutation, IsSorted};
+ghost use Rattle.std.specs.Prelude.{true, ◌≡◌};
 ghost use Rattle.measure_index.specs.ColumnKeys.{key_cmp};
 
 use crate::key::Key;
@@ -13,7 +13,8 @@ fn are_whole(keys: &[Key]) -> bool
     keys.iter().all(|key| key.den == 1)
 }
 
-/// Sorts keys, in place. Only means have divisors. Without them the products are left out.
+/// Sorts keys in place. Only the keys of means aren't whole numbers. Whole numbers are compared as
+/// they are, which is faster than by products.
 pub(crate) fn sort_keys(keys: &mut Vec<Key>)
     ensures permutation { IsPermutation keys.old.items keys.new.items }
     ensures sorted { IsSorted key_cmp keys.new.items }
