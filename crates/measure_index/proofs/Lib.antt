@@ -11,4 +11,5 @@ pub mod Filled
 pub mod Units
 pub mod FillingLemmas
 mod SetSizes
+mod Whole
 pub mod CallerLemmas

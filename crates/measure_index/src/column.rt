@@ -10,6 +10,7 @@ ghost use Rattle.measure_index.specs.Walks.{qualifying};
 use crate::key::Key;
 use crate::keying::keys_of;
 use crate::keys::{insert_all, lacked_by, remove_keys, set_of};
+use crate::sorting::sort_keys;
 use crate::walk::{Direction, Walk};
 use aggregates::{Agg, AggKind, Fraction};
 use cell_core::NodeNo;
@@ -128,8 +129,8 @@ impl Column {
             Ok(removed) => removed,
             Err(error) => return Err(error),
         };
-        added.sort_unstable();
-        removed.sort_unstable();
+        sort_keys(&mut added);
+        sort_keys(&mut removed);
         let going = lacked_by(alloc, &added, &removed)?;
         Ok(Plan { added, going })
     }

@@ -3,8 +3,11 @@ ghost use Rattle.std.specs.Prelude.{◌≡◌, ◌<◌, ◌≤◌, ◌+◌, ◌-
 ghost use Rattle.std.specs.BTreeSet.{btree_set_len, contains, IsOrdered, IsSameSet};
 ghost use Rattle.std.specs.List.Sorted.{IsSorted};
 ghost use Rattle.std.specs.declared.cmp.Ordering.TheVariants.{Less};
+ghost use Rattle.measure_index.specs.ColumnKeys.{key_cmp};
 ghost use Rattle.measure_index.specs.Keys.{IsPlace, among};
 
+use crate::key::Key;
+use crate::sorting::sort_keys;
 use cube_defs::Memory;
 use std::alloc::{AllocError, Global};
 use std::collections::BTreeSet;
@@ -24,16 +27,13 @@ pub(crate) fn remove_keys<K: Ord + Copy>(set: &mut BTreeSet<K, Global>, items: &
 
 /// A set of some keys, made without a search for each. The keys are sorted in place, which needs no
 /// memory.
-pub(crate) fn set_of<K: Ord + Copy>(
-    alloc: Global,
-    items: Vec<K>,
-) -> Result<BTreeSet<K, Global>, Memory>
-    ensures has { IfOk result (λ s. (q : K) → contains K.cmp s q ≡ among K.cmp items.items q) }
-    ensures ordered { IfOk result (λ s. IsOrdered K.cmp s) }
+pub(crate) fn set_of(alloc: Global, items: Vec<Key>) -> Result<BTreeSet<Key, Global>, Memory>
+    ensures has { IfOk result (λ s. (q : _) → contains key_cmp s q ≡ among key_cmp items.items q) }
+    ensures ordered { IfOk result (λ s. IsOrdered key_cmp s) }
     ensures few { IfOk result (λ s. btree_set_len s ≤ length items.items) }
 {
     let mut sorted = items;
-    sorted.sort_unstable();
+    sort_keys(&mut sorted);
     BTreeSet::from_iter(alloc, sorted)
 }
 

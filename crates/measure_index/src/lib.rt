@@ -8,6 +8,7 @@ mod index;
 mod key;
 mod keying;
 mod keys;
+mod sorting;
 mod walk;
 
 pub use builder::IndexBuilder;

@@ -21,13 +21,13 @@ returns c =
     let within = c.self.invariant.scale_small in
     let added = c.in-Ok.added.items in
     let removed = c.in-Ok-keys_of.removed.items in
-    let coming = c.sort_unstable.new.self.items in
-    let leaving = c.sort_unstable-2.new.self.items in
+    let coming = c.sort_keys.new.keys.items in
+    let leaving = c.sort_keys-2.new.keys.items in
     let going = c.in_ok-going.going.items in
     let come : (q : IndexEntry) → lists (entries_at kind scale coming) q ≡ lists (entries_at kind scale added) q
-    = same_lists kind scale added coming c.sort_unstable.ensures.permutation in
+    = same_lists kind scale added coming c.sort_keys.ensures.permutation in
     let leave : (q : IndexEntry) → lists (entries_at kind scale leaving) q ≡ lists (entries_at kind scale removed) q
-    = same_lists kind scale removed leaving c.sort_unstable-2.ensures.permutation in
+    = same_lists kind scale removed leaving c.sort_keys-2.ensures.permutation in
     let lacked : (k : Key) → among key_cmp going k ≡ (among key_cmp leaving k && not (among key_cmp coming k))
     = λ k. c.in_ok-going.ensures.has k
     ∙ ap (λ ks. among key_cmp leaving k && not (among key_cmp ks k)) c.deref.ensures.value in
