@@ -10,5 +10,8 @@ pub mod Keyed
 pub mod Filled
 pub mod Units
 pub mod FillingLemmas
-mod SetSizes
+pub mod Places
+pub mod BlockLemmas
+pub mod Comings
+pub mod Deduped
 pub mod CallerLemmas
