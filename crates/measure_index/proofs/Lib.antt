@@ -10,6 +10,9 @@ pub mod Keyed
 pub mod Filled
 pub mod Units
 pub mod FillingLemmas
-mod SetSizes
 mod Whole
+pub mod Places
+pub mod BlockLemmas
+pub mod Comings
+pub mod Deduped
 pub mod CallerLemmas

@@ -4,6 +4,8 @@ pub mod Rankings
 pub mod Changes
 pub mod Divisors
 pub mod ColumnKeys
+pub mod Blocks
+pub mod Spots
 pub mod Builder
 pub mod Index
 pub mod Walks

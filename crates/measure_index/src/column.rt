@@ -9,14 +9,14 @@ ghost use Rattle.measure_index.specs.Walks.{qualifying};
 
 use crate::key::Key;
 use crate::keying::keys_of;
-use crate::keys::{insert_all, lacked_by, remove_keys, set_of};
+use crate::keys::lacked_by;
+use crate::sorted_keys::SortedKeys;
 use crate::sorting::sort_keys;
 use crate::walk::{Direction, Walk};
 use aggregates::{Agg, AggKind, Fraction};
 use cell_core::NodeNo;
 use cube_defs::{MAX_SCALE, Memory};
 use std::alloc::{AllocError, Global};
-use std::collections::BTreeSet;
 use std::marker::Model;
 
 /// The classes by their values of one kind.
@@ -24,7 +24,7 @@ use std::marker::Model;
 pub(crate) struct Column {
     kind: AggKind,
     scale: u8,
-    keys: BTreeSet<Key, Global>,
+    keys: SortedKeys,
 }
 
 impl Model for Column {
@@ -59,7 +59,7 @@ impl Column {
         Column {
             kind,
             scale,
-            keys: BTreeSet::new(alloc),
+            keys: SortedKeys::new(alloc),
         }
     }
 
@@ -75,7 +75,7 @@ impl Column {
         ensures { IfOk result (λ column. IsRankingOf
             (record { kind = kind; scale = scale; keys = keys.items }) column) }
     {
-        match set_of(alloc, keys) {
+        match SortedKeys::of(alloc, keys) {
             Ok(set) => Ok(Column {
                 kind,
                 scale,
@@ -149,7 +149,7 @@ impl Column {
         if self.keys.len() + added.len() > u32::MAX as usize {
             return Err(AllocError);
         }
-        insert_all(alloc, &mut self.keys, added)
+        self.keys.insert_all(alloc, added)
     }
 
     /// Takes out the entries that are there.
@@ -157,6 +157,6 @@ impl Column {
         ensures { EntriesRemoved (entries_at self.old.kind self.old.scale going.now)
             self.old self.new }
     {
-        remove_keys(&mut self.keys, going);
+        self.keys.remove_all(going);
     }
 }

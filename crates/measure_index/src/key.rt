@@ -80,3 +80,19 @@ impl Ord for Key {
         value.cmp(&other_value).then(self.node.cmp(&other.node))
     }
 }
+
+impl Key {
+    ghost use Rattle.std.specs.Prelude.{◌≡◌};
+    ghost use Rattle.measure_index.specs.ColumnKeys.{key_cmp};
+
+    /// The same as `cmp`. Keys with equal divisors are compared by their numbers, without products.
+    pub(crate) fn compare(&self, other: &Key) -> Ordering
+        ensures { result ≡ key_cmp self.now other.now }
+    {
+        if self.den == other.den {
+            self.num.cmp(&other.num).then(self.node.cmp(&other.node))
+        } else {
+            self.cmp(other)
+        }
+    }
+}

@@ -1,13 +1,16 @@
 //! For some kinds of aggregates, keeps the classes sorted by value.
 #![tactic(auto)]
 
+mod blocks;
 mod builder;
 mod column;
 mod entry;
 mod index;
 mod key;
+mod key_iter;
 mod keying;
 mod keys;
+mod sorted_keys;
 mod sorting;
 mod walk;
 

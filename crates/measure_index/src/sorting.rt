@@ -1,7 +1,7 @@
 // Sorting of keys.
 ghost use Rattle.std.specs.List.{All};
 ghost use Rattle.std.specs.List.Sorted.{IsPermutation, IsSorted};
-ghost use Rattle.std.specs.Prelude.{true, ◌≡◌};
+ghost use Rattle.std.specs.Prelude.{true, vec_len, ◌≡◌};
 ghost use Rattle.measure_index.specs.ColumnKeys.{key_cmp};
 
 use crate::key::Key;
@@ -18,6 +18,7 @@ fn are_whole(keys: &[Key]) -> bool
 pub(crate) fn sort_keys(keys: &mut Vec<Key>)
     ensures permutation { IsPermutation keys.old.items keys.new.items }
     ensures sorted { IsSorted key_cmp keys.new.items }
+    ensures len { vec_len keys.new ≡ vec_len keys.old }
 {
     if are_whole(keys) {
         keys.sort_unstable_by(|a, b| a.num.cmp(&b.num).then(a.node.cmp(&b.node)));

@@ -6,10 +6,10 @@ ghost use Rattle.measure_index.specs.Walks.{directed, passing, qualifying};
 
 use crate::entry::IndexEntry;
 use crate::key::Key;
+use crate::key_iter::KeyIter;
 use aggregates::{AggKind, Fraction, Ratio, compare};
 use cell_core::NodeNo;
 use cube_defs::MAX_SCALE;
-use std::collections::btree_set::Iter;
 use std::marker::Model;
 
 /// The end from which entries are read.
@@ -25,7 +25,7 @@ pub(crate) enum Direction {
 /// qualify.
 #[derive(Drop)]
 pub struct Walk<'a> {
-    keys: Iter<'a, Key>,
+    keys: KeyIter<'a>,
     kind: AggKind,
     scale: u8,
     direction: Direction,
@@ -64,7 +64,7 @@ fn passes(entry: &IndexEntry, direction: Direction, bound: &Fraction) -> bool
 }
 
 // The next key from the direction's end.
-fn next_of<'a>(keys: &mut Iter<'a, Key>, direction: Direction) -> Option<&'a Key>
+fn next_of<'a>(keys: &mut KeyIter<'a>, direction: Direction) -> Option<&'a Key>
     ensures key { MatchOption result ((directed direction keys.old ≡ [])
         × (directed direction keys.new ≡ []))
         (λ k. directed direction keys.old ≡ k.now ∷ directed direction keys.new) }
@@ -79,7 +79,7 @@ fn next_of<'a>(keys: &mut Iter<'a, Key>, direction: Direction) -> Option<&'a Key
 
 // The entry of the next key.
 fn next_entry(
-    keys: &mut Iter<'_, Key>,
+    keys: &mut KeyIter<'_>,
     direction: Direction,
     kind: AggKind,
     scale: u8,
@@ -99,7 +99,7 @@ fn next_entry(
 impl<'a> Walk<'a> {
     /// The entries that qualify, of keys in rising order. `scale` is that of the kind's measure.
     pub(crate) fn new(
-        keys: Iter<'a, Key>,
+        keys: KeyIter<'a>,
         kind: AggKind,
         scale: u8,
         direction: Direction,

@@ -14,7 +14,7 @@ returns-clause-came c =
     let kind = c.self.inside.kind in
     let scale = c.self.inside.scale in
     let old = c.self.inside.keys.keys in
-    let new = c.insert_all.new.set.keys in
+    let new = c.insert_all.new.self.keys in
     on_ok_weaker c.insert_all.result
     (λ h. let now : Ranking = record { kind = kind; scale = scale; entries = entries_at kind scale new } in
     subst (λ r. EntriesAdded (entries_at r.kind r.scale c.args.added.now) r now) c.self.view_is (record {
@@ -55,6 +55,6 @@ returns-clause-err c =
     let scale = c.self.inside.scale in
     on_err_weaker c.insert_all.result
     (λ h. ap (λ es. let r : Ranking = record { kind = kind; scale = scale; entries = es } in r)
-    (sym (same_entries_at kind scale c.self.inside.keys c.insert_all.new.set c.self.invariant.rising
+    (sym (same_entries_at kind scale c.self.inside.keys c.insert_all.new.self c.self.invariant.rising
     c.insert_all.ensures.now_ordered h)) ∙ c.self.view_is)
     c.insert_all.ensures.err

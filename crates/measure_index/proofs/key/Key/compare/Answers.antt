@@ -1,0 +1,12 @@
+use Rattle.std.proofs.Common.{ℕ, ap, ap₂, pos, sym, ◌*ℤ◌, ◌∙◌}
+use Rattle.std.specs.Ordering.{int_cmp, nat_cmp, ordering_then}
+use Rattle.aggregates.proofs.CallerLemmas.{order-over}
+use Rattle.measure_index.proofs.key.Key.compare.Goals as goal
+
+pub returns-then-self-other : goal.returns-then-self-other
+returns-then-self-other c =
+    let x = c.args.self.now in
+    let y = c.args.other.now in
+    c.then.ensures ∙ ap₂ ordering_then
+    (c.cmp.ensures ∙ order-over x.num y.num x.den x.in_range.positive
+    ∙ ap (λ (d : ℕ). int_cmp (x.num *ℤ pos d) (y.num *ℤ pos x.den)) c.if-self-other.true) c.cmp-then-self-other.ensures
