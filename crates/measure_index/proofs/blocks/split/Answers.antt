@@ -1,4 +1,4 @@
-use Rattle.std.proofs.Common.{ap, arith, drop, sym, take, ◌+◌, ◌≡◌, ◌∙◌, get_or, if◌then◌else◌, not, set}
+use Rattle.std.proofs.Common.{ap, arith, drop, take, ◌+◌, ◌≡◌, ◌∙◌, get_or, if◌then◌else◌, not, set}
 use Rattle.std.specs.List.{insert}
 use Rattle.std.proofs.lemmas.List.{get_or_default, take_rest}
 use Rattle.std.proofs.lemmas.List.Edits.{get_or-insert_below}
