@@ -1,7 +1,7 @@
 -- The keys of blocks where one block changes.
 use Rattle.std.proofs.Common.{◌≡◌, ℕ, suc, ◌+◌, ◌-◌, ◌<◌, ◌≤◌, ◌++◌, Bool, true, false, refl, sym, ap, subst, ◌∙◌, List, [], ◌∷◌, take, drop, length, get_or, set, arith, ltb-true, ltb-false}
 use Rattle.std.specs.Prelude.{Vec}
-use Rattle.std.specs.List.{All, insert, remove}
+use Rattle.std.specs.List.{insert, remove}
 use Rattle.std.specs.declared.alloc.Global.{Global}
 use Rattle.std.specs.Ordering.{is_eq, is_gt}
 use Rattle.std.specs.Prelude.{nat_lt}
@@ -15,7 +15,6 @@ use Rattle.measure_index.specs.ColumnKeys.{key_cmp, key_total}
 use Rattle.measure_index.specs.Keys.{IsPlace, among}
 use Rattle.measure_index.specs.Spots.{IsSpot}
 use Rattle.measure_index.specs.declared.key.Key.{Key}
-use Rattle.measure_index.specs.declared.blocks.Spot.{Spot}
 use Rattle.measure_index.proofs.Places.{found_in, not_found, placed}
 
 abbrev pub Block : Type 0
@@ -143,6 +142,45 @@ module _ (bs : List Block) (i : ℕ) (d : Block) (inside : i < length bs) where
               (All-cons Full upper (drop (i + 1) bs) (omega (arith, over, l)) behind));
           rising = subst (IsStrictlySortedBy key_cmp) (sym split_same) are.rising;
         })
+
+  -- two blocks in one
+  module _ (e : Block) (both : Block) (more : i + 1 < length bs)
+      (is : both.items ≡ part ++ (get_or bs (i + 1) e).items) where
+    abbrev fewer : List Block
+    fewer = remove bs (i + 1)
+
+    ahead : take i fewer ≡ take i bs
+    ahead =
+        let k = length-take-le (i + 1) bs (omega (arith, inside)) in
+        take-append-le i (take (i + 1) bs) (drop (suc (i + 1)) bs) (omega (arith, k))
+        ∙ take-take i (i + 1) bs (omega arith)
+
+    behind : drop (i + 1) fewer ≡ drop (i + 1 + 1) bs
+    behind = drop_at (take (i + 1) bs) (drop (suc (i + 1)) bs) (i + 1)
+        (length-take-le (i + 1) bs (omega (arith, inside)))
+        ∙ ap (λ (n : ℕ). drop n bs) (next (i + 1))
+
+    shorter : i < length fewer
+    shorter = let k = length-remove bs (i + 1) more in omega (arith, k, more)
+
+    pub join_same : joined (set fewer i both) ≡ joined bs
+    join_same = joined_set fewer i both shorter
+        ∙ ap (λ cs. joined cs ++ (both.items ++ joined (drop (i + 1) fewer))) ahead
+        ∙ ap (λ cs. pre ++ (both.items ++ joined cs)) behind
+        ∙ ap (λ ys. pre ++ (ys ++ joined (drop (i + 1 + 1) bs))) is
+        ∙ ap (λ ys. pre ++ ys) (append_assoc part (get_or bs (i + 1) e).items (joined (drop (i + 1 + 1) bs)))
+        ∙ ap (λ cs. pre ++ (part ++ joined cs)) (sym (drop_more bs (i + 1) e more)) ∙ sym (joined_at bs i d inside)
+
+    pub join_are : AreBlocks bs → AreBlocks (set fewer i both)
+    join_are are =
+        let long = ap length is ∙ length-append part (get_or bs (i + 1) e).items in
+        let some : 0 < length part = All-get_or Full bs i d inside are.full in
+        record {
+          full = All-set Full fewer i both (omega (arith, long, some))
+              (All-append Full (take (i + 1) bs) (drop (suc (i + 1)) bs) (All-take Full (i + 1) bs are.full)
+              (All-drop Full (suc (i + 1)) bs are.full));
+          rising = subst (IsStrictlySortedBy key_cmp) (sym join_same) are.rising;
+        }
 
   pub set_are : (b : Block) → 0 < length b.items → IsStrictlySortedBy key_cmp (joined (set bs i b)) → AreBlocks bs
       → AreBlocks (set bs i b)

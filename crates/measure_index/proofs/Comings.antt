@@ -1,5 +1,5 @@
 -- Keys of a set after one key came or went.
-use Rattle.std.proofs.Common.{◌≡◌, ℕ, ◌+◌, ◌<◌, ◌≤◌, ◌++◌, Bool, true, false, not, cond, if◌then◌else◌, refl, sym, ap, subst, ◌∙◌, List, [], ◌∷◌, length, get_or, arith, ◌||◌}
+use Rattle.std.proofs.Common.{◌≡◌, ℕ, ◌<◌, ◌++◌, Bool, true, false, not, cond, refl, sym, ap, subst, ◌∙◌, List, [], ◌∷◌, length, arith}
 use Rattle.std.specs.List.{All, insert, list_any, remove}
 use Rattle.std.specs.List.Sorted.{IsStrictlySortedBy}
 use Rattle.std.specs.Ordering.{eq_by_cmp}
@@ -31,8 +31,7 @@ module _ (key : Key) where
   come_first bs news b none one e =
       let all : news ≡ b ∷ [] = e ∙ ap (λ cs. cs ++ b ∷ []) none in
       let keys : joined news ≡ key ∷ [] = ap joined all ∙ ap (λ ks. ks ++ []) one in
-      let some = ap length one in
-      (
+      let some = ap length one in (
         record {
           full = subst (All (λ (b : Block). 0 < length b.items)) (sym all)
               (All-cons (λ (b : Block). 0 < length b.items) b [] (omega (arith, some))
@@ -40,13 +39,13 @@ module _ (key : Key) where
           rising = subst (IsStrictlySortedBy key_cmp) (sym keys) (tt, tt);
         },
         subst (λ cs. HasCome key (joined cs) (joined news) true) (sym none)
-        (subst (λ ks. HasCome key [] ks true) (sym keys) (record {
-          added = refl;
-          has = λ q. or-false (eq_by_cmp key_cmp q key) ∙ (eq_by_cmp_equiv key_total).symm q key
-              ∙ is_itself (eq_by_cmp key_cmp key q);
-          len = refl;
-          rising = (tt, tt);
-        })),
+            (subst (λ ks. HasCome key [] ks true) (sym keys) (record {
+              added = refl;
+              has = λ q. or-false (eq_by_cmp key_cmp q key) ∙ (eq_by_cmp_equiv key_total).symm q key
+                  ∙ is_itself (eq_by_cmp key_cmp key q);
+              len = refl;
+              rising = (tt, tt);
+            })),
       )
     where
       is_itself : (b : Bool) → b ≡ cond b true false

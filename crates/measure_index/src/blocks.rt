@@ -1,7 +1,7 @@
 // Keys in rising order, in blocks none of which is empty.
 ghost use Rattle.std.specs.List.{All, insert, remove};
 ghost use Rattle.std.specs.Ordering.{is_gt};
-ghost use Rattle.std.specs.Prelude.{IfOk, OnErr, Vec, drop, length, slice_index_or, true, ◌+◌, ◌++◌, ◌-◌, ◌<◌, ◌≡◌, ◌≤◌};
+ghost use Rattle.std.specs.Prelude.{IfOk, OnErr, Vec, drop, length, slice_index_or, true, vec_capacity, vec_len, ◌+◌, ◌++◌, ◌-◌, ◌<◌, ◌≡◌, ◌≤◌};
 ghost use Rattle.measure_index.specs.Blocks.{AreBlocks, AreBounds, HasCome, HasGone, joined, place_of};
 ghost use Rattle.measure_index.specs.ColumnKeys.{key_cmp};
 ghost use Rattle.measure_index.specs.Keys.{IsPlace, among};
@@ -12,13 +12,16 @@ use cube_defs::Memory;
 use std::alloc::{AllocError, Global};
 
 /// A block with so many keys is split before another one comes into it.
-const MOST: usize = 256;
+const MOST: usize = 128;
 
 /// How many keys stay in a block that is split.
-const HALF: usize = 128;
+const HALF: usize = 64;
 
 /// How many keys a block has that is made together with others.
-const FILLED: usize = 192;
+const FILLED: usize = 96;
+
+/// A block with fewer keys is joined with the next one if that leaves room.
+const FEWEST: usize = 16;
 
 /// Where a key stands or would stand: the number of its block, its place there, and whether it is
 /// there.
@@ -45,7 +48,11 @@ fn bounds_near(blocks: &[Vec<Key>], near: usize, key: &Key) -> (usize, usize)
     requires full { All (λ b. 0 < length b.items) blocks.now }
     ensures { AreBounds blocks.now key.now result.0 result.1 }
 {
-    let mut low = if begins_after(&blocks[near], key) { 0 } else { near };
+    let mut low = if begins_after(&blocks[near], key) {
+        0
+    } else {
+        near
+    };
     let mut step = 1;
     'steps: while low + step < blocks.len() && !begins_after(&blocks[low + step], key) {
         low += step;
@@ -119,7 +126,7 @@ fn split(alloc: Global, blocks: &mut Vec<Vec<Key>>, at: usize) -> Result<(), Mem
     requires are { AreBlocks blocks.old.items }
     requires within { at < length blocks.old.items }
     requires long { (d : Vec Key Global)
-        → 128 < length (slice_index_or blocks.old.items at d).items }
+        → 64 < length (slice_index_or blocks.old.items at d).items }
     ensures are { AreBlocks blocks.new.items }
     ensures same { joined blocks.new.items ≡ joined blocks.old.items }
     ensures some { 0 < length blocks.new.items }
@@ -181,6 +188,36 @@ pub(crate) fn insert_key(
     }
 }
 
+// Takes the next block's keys into a block.
+fn join(blocks: &mut Vec<Vec<Key>>, at: usize)
+    requires are { AreBlocks blocks.old.items }
+    requires next { at + 1 < length blocks.old.items }
+    requires room { (d : Vec Key Global)
+        → vec_len (slice_index_or blocks.old.items at d)
+        + vec_len (slice_index_or blocks.old.items (at + 1) d)
+        ≤ vec_capacity (slice_index_or blocks.old.items at d) }
+    ensures are { AreBlocks blocks.new.items }
+    ensures same { joined blocks.new.items ≡ joined blocks.old.items }
+{
+    let next = blocks.remove(at + 1);
+    let _ = blocks[at].extend_from_slice(&next);
+}
+
+// Joins a small block with the next one if there is room, which takes no memory.
+fn join_small(blocks: &mut Vec<Vec<Key>>, at: usize)
+    requires { AreBlocks blocks.old.items }
+    ensures are { AreBlocks blocks.new.items }
+    ensures same { joined blocks.new.items ≡ joined blocks.old.items }
+{
+    if blocks.len().saturating_sub(at) < 2 || blocks[at].len() >= FEWEST {
+        return;
+    }
+    let both = blocks[at].len() + blocks[at + 1].len();
+    if both <= FILLED && both <= blocks[at].capacity() {
+        join(blocks, at);
+    }
+}
+
 // Takes the key at a place of a block out, with the block if that was its only key.
 fn take_out(blocks: &mut Vec<Vec<Key>>, block: usize, place: usize)
     requires are { AreBlocks blocks.old.items }
@@ -188,7 +225,8 @@ fn take_out(blocks: &mut Vec<Vec<Key>>, block: usize, place: usize)
     requires place { (d : Vec Key Global)
         → place < length (slice_index_or blocks.old.items block d).items }
     ensures are { AreBlocks blocks.new.items }
-    ensures taken { joined blocks.new.items ≡ remove (joined blocks.old.items) (place_of blocks.old.items block place) }
+    ensures taken { joined blocks.new.items
+        ≡ remove (joined blocks.old.items) (place_of blocks.old.items block place) }
 {
     if blocks[block].len() == 1 {
         blocks.remove(block);
@@ -211,6 +249,7 @@ pub(crate) fn remove_key(blocks: &mut Vec<Vec<Key>>, near: &mut usize, key: &Key
     *near = spot.block;
     if spot.found {
         take_out(blocks, spot.block, spot.place);
+        join_small(blocks, spot.block);
     }
     spot.found
 }

@@ -100,9 +100,11 @@ impl SortedKeys {
         requires room { btree_set_len self.old + length items.now < 4294967296 }
         requires ordered { IsOrdered key_cmp self.old }
         ensures has { OnOk result ((q : Key)
-            → contains key_cmp self.new q ≡ (contains key_cmp self.old q || among key_cmp items.now q)) }
+            → contains key_cmp self.new q
+            ≡ (contains key_cmp self.old q || among key_cmp items.now q)) }
         ensures fresh { IfOk result (λ came. (q : Key)
-            → among key_cmp came.items q ≡ (among key_cmp items.now q && not (contains key_cmp self.old q))) }
+            → among key_cmp came.items q
+            ≡ (among key_cmp items.now q && not (contains key_cmp self.old q))) }
         ensures err { OnErr result (IsSameSet key_cmp self.old self.new) }
         ensures few { btree_set_len self.new ≤ btree_set_len self.old + length items.now }
         ensures now_ordered { IsOrdered key_cmp self.new }

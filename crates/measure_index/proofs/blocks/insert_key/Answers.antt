@@ -1,11 +1,11 @@
-use Rattle.std.proofs.Common.{List, ap, arith, eqb-true, get_or, length, set, subst, sym, true, ◌<◌, ◌≡◌, ◌∙◌, [], ◌∷◌}
+use Rattle.std.proofs.Common.{List, ap, arith, eqb-true, get_or, length, set, subst, sym, true, ◌<◌, ◌∙◌}
 use Rattle.std.specs.List.{insert}
 use Rattle.std.specs.List.Sorted.{IsStrictlySortedBy}
 use Rattle.std.proofs.lemmas.List.{nil_from_length}
 use Rattle.std.proofs.lemmas.List.Edits.{length-insert}
 use Rattle.std.proofs.lemmas.List.Elements.{All-get_or}
-use Rattle.measure_index.specs.Blocks.{AreBlocks, HasCome, joined, place_of}
-use Rattle.measure_index.specs.ColumnKeys.{key_cmp, key_total}
+use Rattle.measure_index.specs.Blocks.{HasCome, joined, place_of}
+use Rattle.measure_index.specs.ColumnKeys.{key_cmp}
 use Rattle.measure_index.specs.Keys.{among}
 use Rattle.measure_index.specs.declared.key.Key.{Key}
 use Rattle.measure_index.proofs.BlockLemmas.{Block, insert_in, same_items, set_are}

@@ -1,4 +1,4 @@
-use Rattle.std.proofs.Common.{List, false, subst, sym, true, ◌∙◌}
+use Rattle.std.proofs.Common.{List, subst, sym, ◌∙◌}
 use Rattle.measure_index.specs.Blocks.{HasGone, joined}
 use Rattle.measure_index.specs.Spots.{IsSpot}
 use Rattle.measure_index.proofs.BlockLemmas.{Block, get_or_some, place_within}
@@ -13,8 +13,9 @@ returns-then-spot-clause-gone c =
     let is : IsSpot bs key spot
     = subst (λ (cs : List Block). IsSpot cs key spot) c.deref.ensures.value c.spot_of-spot.ensures in
     let block = get_or_some bs spot.block is.block in
-    subst (λ b. HasGone key (joined bs) (joined c.take_out.new.blocks.items) b) (sym c.if-spot.true)
-    (go_from key (joined bs) c.requires.rising (joined c.take_out.new.blocks.items) _ c.take_out.ensures.taken
+    subst (λ b. HasGone key (joined bs) (joined c.join_small.new.blocks.items) b) (sym c.if-spot.true)
+    (go_from key (joined bs) c.requires.rising (joined c.join_small.new.blocks.items) _
+    (c.join_small.ensures.same ∙ c.take_out.ensures.taken)
     (place_within bs spot.block block is.block spot.place (is.there block c.if-spot.true)) is.place
     (sym c.if-spot.true ∙ is.found))
 

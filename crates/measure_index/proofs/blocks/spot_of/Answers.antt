@@ -1,4 +1,4 @@
-use Rattle.std.proofs.Common.{ap, arith, sym, ◌<◌, ◌≡◌, ◌∙◌, get_or, le-ltb, length, subst}
+use Rattle.std.proofs.Common.{ap, arith, sym, ◌∙◌, le-ltb, subst}
 use Rattle.std.specs.Ordering.{is_eq}
 use Rattle.measure_index.specs.ColumnKeys.{key_cmp}
 use Rattle.measure_index.specs.Spots.{IsSpot}

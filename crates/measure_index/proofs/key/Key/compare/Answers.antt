@@ -1,5 +1,5 @@
-use Rattle.std.proofs.Common.{ℕ, ap, ap₂, pos, sym, ◌*ℤ◌, ◌∙◌}
-use Rattle.std.specs.Ordering.{int_cmp, nat_cmp, ordering_then}
+use Rattle.std.proofs.Common.{ℕ, ap, ap₂, pos, ◌*ℤ◌, ◌∙◌}
+use Rattle.std.specs.Ordering.{int_cmp, ordering_then}
 use Rattle.aggregates.proofs.CallerLemmas.{order-over}
 use Rattle.measure_index.proofs.key.Key.compare.Goals as goal
 

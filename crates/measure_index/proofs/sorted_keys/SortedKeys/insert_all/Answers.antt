@@ -1,7 +1,5 @@
-use Rattle.std.proofs.Common.{◌≡◌, ◌&&◌, ◌||◌, ◌∙◌, ap, arith, length, not}
+use Rattle.std.proofs.Common.{◌≡◌, ◌&&◌, ◌||◌, ◌∙◌, ap, arith, not}
 use Rattle.std.specs.BTreeSet.{btree_set_len, contains}
-use Rattle.std.specs.List.{list_any}
-use Rattle.std.specs.Ordering.{is_eq}
 use Rattle.measure_index.specs.ColumnKeys.{key_cmp, key_total}
 use Rattle.measure_index.specs.Keys.{among}
 use Rattle.cube_laws.proofs.CallerLemmas.{take_all}

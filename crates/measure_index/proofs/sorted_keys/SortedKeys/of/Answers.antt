@@ -23,8 +23,7 @@ invariant_of-result c =
     let keys = c.in-Ok.ensures.keys ∙ c.deref.ensures.value in
     let same : kept.items ≡ dedup (eq_by_cmp key_cmp) sorted.items
     = dedup_is (eq_by_cmp key_cmp) sorted.items kept.items c.dedup.ensures.filtered in
-    let long = ap length keys in
-    (
+    let long = ap length keys in (
       record {
         full = c.in-Ok.ensures.full;
         rising = subst (IsStrictlySortedBy key_cmp) (sym (keys ∙ same))
