@@ -1,6 +1,6 @@
 // The aggregates of the classes, one column for each measure.
-ghost use Rattle.std.specs.Prelude.{IfSome, IsTrue, OnOk, if◌then◌else◌, length, nat_eq, slice_index_or, vec_capacity, ℕ, ◌<◌, ◌≡◌, ◌≢◌};
-ghost use Rattle.aggregates.specs.Bounds.{zero_part};
+ghost use Rattle.std.specs.Prelude.{IfSome, IsTrue, OnOk, [], if◌then◌else◌, length, nat_eq, slice_index_or, vec_capacity, ℕ, ◌<◌, ◌≡◌, ◌≢◌, ◌≤◌};
+ghost use Rattle.aggregates.specs.Bounds.{IsZero, zero_part};
 ghost use Rattle.qc_arena.specs.Parts.{HasRoom, shown};
 
 use crate::Memory;
@@ -55,17 +55,30 @@ pub(crate) fn is_zero(part: Part) -> bool
     part.sum == 0 && part.least == 0 && part.greatest == 0
 }
 
-// Fills a column with zeros up to a number.
+// Fills a column with zeros up to a number, which comes next.
 fn fill(column: &mut Vec<Part>, node: u32)
-    requires { node < vec_capacity column.old }
+    requires room { node < vec_capacity column.old }
+    requires short { length column.old.items ≤ node }
     ensures same { (q : ℕ) → slice_index_or column.new.items q zero_part
         ≡ slice_index_or column.old.items q zero_part }
-    ensures reached { node < length column.new.items }
+    ensures reached { length column.new.items ≡ node }
     ensures room { vec_capacity column.new ≡ vec_capacity column.old }
 {
-    'more: while column.len() <= node as usize {
+    'more: while column.len() < node as usize {
         column.push_reserved(ZERO);
     }
+}
+
+// Adds a part at the end of a column.
+fn push_part(column: &mut Vec<Part>, part: Part)
+    requires { length column.old.items < vec_capacity column.old }
+    ensures parts { (q : ℕ)
+        → slice_index_or column.new.items q zero_part
+        ≡ (if nat_eq (length column.old.items) q then part
+        else slice_index_or column.old.items q zero_part) }
+    ensures room { vec_capacity column.new ≡ vec_capacity column.old }
+{
+    column.push_reserved(part);
 }
 
 // Writes the part at a number.
@@ -76,13 +89,15 @@ fn put_part(column: &mut Vec<Part>, node: u32, part: Part)
         else slice_index_or column.old.items q zero_part) }
     ensures room { vec_capacity column.new ≡ vec_capacity column.old }
 {
-    if node as usize >= column.len() {
-        if is_zero(part) {
-            return;
-        }
-        fill(column, node);
+    if (node as usize) < column.len() {
+        column[node as usize] = part;
+        return;
     }
-    column[node as usize] = part;
+    if is_zero(part) {
+        return;
+    }
+    fill(column, node);
+    push_part(column, part);
 }
 
 impl MeasureColumns {
@@ -168,6 +183,30 @@ impl MeasureColumns {
         put_part(&mut self.fourth, node, parts[3]);
     }
 
+    // Whether no class has a second measure.
+    fn has_one_column(&self) -> bool
+        ensures second { IsTrue result → self.now.second.items ≡ [] }
+        ensures third { IsTrue result → self.now.third.items ≡ [] }
+        ensures fourth { IsTrue result → self.now.fourth.items ≡ [] }
+    {
+        self.second.is_empty() && self.third.is_empty() && self.fourth.is_empty()
+    }
+
+    // Writes the parts of a node that has one measure at most, where no class has a second one.
+    fn put_one(&mut self, node: u32, parts: &[Part; MAX_MEASURES as usize])
+        requires room { HasRoom self.old node }
+        requires second { self.old.second.items ≡ [] }
+        requires third { self.old.third.items ≡ [] }
+        requires fourth { self.old.fourth.items ≡ [] }
+        requires one { (k : ℕ) → 1 ≤ k → IsZero (slice_index_or parts.now k zero_part) }
+        ensures here { shown self.new node ≡ parts.now }
+        ensures others { (q : ℕ) → q ≢ node → shown self.new q ≡ shown self.old q }
+        ensures room { (q : ℕ) → HasRoom self.old q → HasRoom self.new q }
+        ensures four { length parts.now ≡ MAX_MEASURES }
+    {
+        put_part(&mut self.first, node, parts[0]);
+    }
+
     // Writes the parts of a class, if there is one.
     pub(crate) fn put_class(&mut self, node: u32, class: &Option<Agg>)
         requires { HasRoom self.old node }
@@ -176,8 +215,13 @@ impl MeasureColumns {
         ensures others { (q : ℕ) → q ≢ node → shown self.new q ≡ shown self.old q }
         ensures room { (q : ℕ) → HasRoom self.old q → HasRoom self.new q }
     {
-        if let Some(agg) = class {
-            self.put(node, &agg.parts);
+        let Some(agg) = class else {
+            return;
+        };
+        if agg.measures <= 1 && self.has_one_column() {
+            self.put_one(node, &agg.parts);
+            return;
         }
+        self.put(node, &agg.parts);
     }
 }
