@@ -1,9 +1,11 @@
 -- The answer to `widen`, by what the code does.
-use Rattle.std.proofs.Common.{◌≡◌, ◌<◌, ℕ, List, [], ◌∷◌, length, map, refl, arith, Err}
+use Rattle.std.proofs.Common.{◌≡◌, ◌<◌, ℕ, List, [], ◌∷◌, length, map, refl, arith, Err, Ok}
 use Rattle.cube_defs.specs.Text.{Text}
 use Rattle.pinned_view.specs.Versions.{Version, Versions}
-use Rattle.reply_text.specs.Replies.{pinned_texts, refused_text, widen_texts}
+use Rattle.reply_text.specs.Replies.{pinned_texts, refused_text, widen_texts, widened_text}
 use Rattle.warehouse.specs.Widening.{WidenRefusal, widen_result}
+use Rattle.warehouse.specs.Stored.{applied_in}
+use Rattle.warehouse.specs.declared.refused.Applied as code
 use Rattle.qc_session.specs.Answers.{widen_with}
 use Rattle.qc_session.specs.Pins.{PinnedState, pinned_state_in, pin_in}
 
@@ -49,3 +51,25 @@ widen-pinned old number name value reply some made = go old.pins some
         }
     go [] some = absurd (omega (arith, some))
     go (pin ∷ pins) some = rw made refl
+
+pub widen-made : (old new : Versions) (number : ℕ) (name value : Text) (taken : code.Applied) (dims : ℕ) (reply : List ℕ)
+    → (0 < length old.pins → ⊥)
+    → (length old.pins ≡ 0 → widen_result old.now.state name value ≡ Ok (applied_in new.now.state taken))
+    → new.pins ≡ old.pins → dims ≡ length new.now.state.schema.dims → reply ≡ widened_text number dims taken.classes
+    → widen_with (pinned_state_in old) (pinned_state_in old).pins number name value ≡ record {
+      state
+          = pinned_state_in new;
+      reply = reply;
+    }
+widen-made old new number name value taken dims reply free is same count made = go old.pins free is same
+  where
+    go : (before : List Version) → (0 < length before → ⊥)
+        → (length before ≡ 0 → widen_result old.now.state name value ≡ Ok (applied_in new.now.state taken))
+        → new.pins ≡ before
+        → widen_with (beside-versions old before) (map pin_in before) number name value ≡ record {
+          state
+              = pinned_state_in new;
+          reply = reply;
+        }
+    go [] free is same = rw (is refl, made, count, same) refl
+    go (pin ∷ pins) free is same = absurd (free (omega arith))

@@ -48,8 +48,8 @@ pub fn answer_widen<L: Ledger>(
 {
     match pinned.widen(name.as_str(), value.as_str(), steps) {
         Ok(taken) => {
-            let dims = pinned.now().schema().dims();
-            Ok(Reply::Short(widened_reply(number, dims, taken.classes)))
+            let schema = pinned.now().schema();
+            Ok(Reply::Short(widened_reply(number, schema.dims(), taken.classes)))
         }
         Err(PinnedWiden::Pinned) => Ok(Reply::Short(refused(number, pinned_refusal()))),
         Err(PinnedWiden::DimsFull) => refused_widening(number, WidenRefused::DimsFull),

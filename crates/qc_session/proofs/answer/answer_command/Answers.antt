@@ -30,7 +30,8 @@ returns-in-Load g c =
       untold = e.untold;
       answered = e.answered;
       steps = on_ok_weaker c.answer_file.result
-          (file-within (g.F.Files.told c.args.files.now) c.in-Load.name batches.Load _ _ _) e.steps;
+          (file-within (g.F.Files.told c.args.files.now) c.in-Load.name batches.Load
+          c.args.pinned.now.now.state c.args.steps.now c.answer_file.new.steps) e.steps;
     })
 
 pub returns-in-Apply : goal.returns-in-Apply
@@ -45,7 +46,8 @@ returns-in-Apply g c =
       untold = e.untold;
       answered = e.answered;
       steps = on_ok_weaker c.answer_file-in-Apply.result
-          (file-within (g.F.Files.told c.args.files.now) c.in-Apply.name batches.Apply _ _ _) e.steps;
+          (file-within (g.F.Files.told c.args.files.now) c.in-Apply.name batches.Apply
+          c.args.pinned.now.now.state c.args.steps.now c.answer_file-in-Apply.new.steps) e.steps;
     })
 
 pub returns-in-Try : goal.returns-in-Try
@@ -60,5 +62,6 @@ returns-in-Try g c =
       untold = e.untold;
       answered = e.answered;
       steps = on_ok_weaker c.answer_file-in-Try.result
-          (file-within (g.F.Files.told c.args.files.now) c.in-Try.name batches.Apply _ _ _) e.steps;
+          (file-within (g.F.Files.told c.args.files.now) c.in-Try.name batches.Apply
+          c.args.pinned.now.now.state c.args.steps.now c.answer_file-in-Try.new.steps) e.steps;
     })

@@ -1,12 +1,12 @@
 use Rattle.std.proofs.Common.{Ok, ap, true, ◌≡◌}
 use Rattle.std.proofs.lemmas.Result.{IfErr-weaker}
 use Rattle.qc_io.specs.Outside.{Rose}
-use Rattle.query_script.specs.Commands.{wants_memory}
+use Rattle.query_script.specs.Commands.{command_in, wants_memory}
 use Rattle.query_script.specs.Lines.{may_want_memory}
 use Rattle.query_script.specs.Questions.{question_in}
 use Rattle.query_script.specs.Faults.{line_fault_in}
 use Rattle.reply_text.specs.Replies.{line_texts}
-use Rattle.qc_session.specs.Answers.{file_named}
+use Rattle.qc_session.specs.Answers.{file_named, file_of}
 use Rattle.qc_session.proofs.Costs.{fault-within}
 use Rattle.qc_session.proofs.Stopped.{fault-alone, line-skips}
 use Rattle.qc_session.proofs.answer.answer_line.Goals as goal
@@ -14,14 +14,15 @@ use Rattle.qc_session.proofs.answer.answer_line.Goals as goal
 pub returns-in-Ok : goal.returns-in-Ok
 returns-in-Ok g c =
     let e = c.answer_command.ensures in
-    let gives = rw (c.schema.ensures.value, c.now.ensures.value) at c.in-Ok.ensures.gives in
     let question = question_in c.in-Ok.command in
+    let gives : command_in c.args.pinned.now.now.state.schema c.args.line.now ≡ Ok question
+    = rw (c.schema.ensures.value, c.now.ensures.value) at c.in-Ok.ensures.gives in
     let rose = Rose (g.F.Files.faults c.args.files.now) (g.F.Files.faults c.answer_command.new.files) in
     record {
       stay = e.stay;
       same = e.same;
       skips = line-skips c.answer_command.result (wants_memory question ≡ true) (may_want_memory c.args.line.now ≡ true)
-          rose (file_named (Ok question)) _ c.in-Ok.ensures.wants (ap file_named gives) e.memory e.fault;
+          rose (file_named (Ok question)) (file_of c.args.pinned.now.now.state.schema c.args.line.now) c.in-Ok.ensures.wants (ap file_named gives) e.memory e.fault;
       fault = IfErr-weaker c.answer_command.result _ _
           (λ stop h. fault-alone stop rose (file_named (Ok question)) h) e.fault;
       untold = e.untold;

@@ -1,4 +1,4 @@
-use Rattle.std.proofs.Common.{◌≡◌, ◌∙◌, ap, subst}
+use Rattle.std.proofs.Common.{◌≡◌, ◌∙◌, ap, refl, subst}
 use Rattle.pinned_view.specs.Versions.{Versions}
 use Rattle.warehouse.specs.State.{Contents, IsState}
 use Rattle.warehouse.specs.Stored.{refusal_in}
@@ -25,3 +25,17 @@ returns-in-Some-clause-steps g c =
     ∙ ap (λ (v : Versions). v.now.state) c.in-Err.ensures.same in
     unmoved-within c.args.pinned.now.now.state c.args.file.bytes.now (kind_in c.args.file.kind) (refusal_in c.in-Err.cause) _ _
     c.args.steps.now c.take_file.new.steps c.in-Some.ensures.texts c.in-Err.ensures.gives.1 c.in-Err.ensures.unread
+
+pub returns-in-Ok : goal.returns-in-Ok
+returns-in-Ok g c =
+    let e = c.in-Ok.ensures in
+    let (then, gives, left) = e.gives in
+    record {
+      ok = rw (gives, left, c.applied_reply.ensures) refl;
+      pins = e.pins;
+      tried = e.tried;
+      numbers = e.numbers;
+      apart = e.apart;
+      steps = e.steps;
+      same = tt;
+    }

@@ -1,4 +1,4 @@
-use Rattle.std.proofs.Common.{◌∙◌, Err, List, ap}
+use Rattle.std.proofs.Common.{◌∙◌, ◌<◌, Err, List, ap, length}
 use Rattle.std.proofs.lemmas.Result.{IfOk-weaker}
 use Rattle.cube_defs.specs.Text.{Text}
 use Rattle.reply_text.specs.Replies.{refused_text}
@@ -6,7 +6,7 @@ use Rattle.warehouse.specs.Widening.{DimsFull, NodesFull}
 use Rattle.qc_session.proofs.Answered.{on-ok}
 use Rattle.qc_session.proofs.Costs.{pinned-within, unwidened-within, widened-within}
 use Rattle.qc_session.proofs.FlushLemmas.{on_err}
-use Rattle.qc_session.proofs.Widened.{widen-pinned, widen-refused}
+use Rattle.qc_session.proofs.Widened.{widen-made, widen-pinned, widen-refused}
 use Rattle.qc_session.proofs.widening.answer_widen.Goals as goal
 
 pub returns-in-Err-Pinned : goal.returns-in-Err-Pinned
@@ -51,7 +51,15 @@ returns-in-Err-NodesFull g c =
           c.args.name.now c.args.value.now NodesFull c.args.steps.now c.widen.new.steps (λ some. cc (other some)) gives);
     }
 
-pub returns-in-Ok-clause-steps : goal.returns-in-Ok-clause-steps
-returns-in-Ok-clause-steps g c =
-    widened-within c.args.pinned.now.now.state c.args.pinned.now.pins c.args.name.now c.args.value.now c.args.steps.now
-    c.widen.new.steps (λ some. cc (c.in-Ok.ensures.pinned.1 some)) c.in-Ok.ensures.steps
+pub returns-in-Ok : goal.returns-in-Ok
+returns-in-Ok g c =
+    let e = c.in-Ok.ensures in
+    let free : 0 < length c.args.pinned.now.pins → ⊥ = λ some. cc (e.pinned.1 some) in
+    record {
+      ok = widen-made c.args.pinned.now c.widen.new.self c.args.number c.args.name.now c.args.value.now c.in-Ok.taken
+          c.dims.result c.widened_reply.result free (rw (c.as_str.ensures.value, c.as_str-2.ensures.value) at e.gives) e.pins
+          (rw (c.schema-schema.ensures.value, c.now.ensures.value) at c.dims.ensures.count) c.widened_reply.ensures;
+      same = tt;
+      steps = widened-within c.args.pinned.now.now.state c.args.pinned.now.pins c.args.name.now c.args.value.now
+          c.args.steps.now c.widen.new.steps free e.steps;
+    }
