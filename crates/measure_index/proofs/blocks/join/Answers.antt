@@ -1,4 +1,5 @@
-use Rattle.std.proofs.Common.{Bool, List, ℕ, length, ◌<◌, ap, ap₂, arith, get_or, if◌then◌else◌, set, subst, sym, true, vec_capacity, vec_len, ◌+◌, ◌++◌, ◌≡◌, ◌≤◌, ◌∙◌}
+use Rattle.std.proofs.Common.{Bool, List, ℕ, length, ◌<◌, ap, ap₂, arith, get_or, if◌then◌else◌, set, subst, sym, true, vec_capacity}
+use Rattle.std.proofs.Common.{vec_len, ◌+◌, ◌++◌, ◌≡◌, ◌≤◌, ◌∙◌}
 use Rattle.std.proofs.lemmas.List.{get_or_default}
 use Rattle.std.proofs.lemmas.List.Edits.{get_or-remove_below}
 use Rattle.measure_index.specs.Blocks.{AreBlocks, joined}
