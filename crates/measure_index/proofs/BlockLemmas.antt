@@ -35,13 +35,13 @@ none_are = record { full = All-nil Full; rising = tt }
 next : (i : ℕ) → suc i ≡ i + 1
 next i = omega arith
 
-pub joined_at : (bs : List Block) (i : ℕ) (d : Block) → i < length bs
+joined_at : (bs : List Block) (i : ℕ) (d : Block) → i < length bs
     → joined bs ≡ joined (take i bs) ++ ((get_or bs i d).items ++ joined (drop (i + 1) bs))
 joined_at bs i d l = ap joined (sym (take-append-drop i bs))
     ∙ flat_map-append (λ (b : Block). b.items) (take i bs) (drop i bs)
     ∙ ap (λ cs. joined (take i bs) ++ joined cs) (drop_more bs i d l)
 
-pub joined_set : (bs : List Block) (i : ℕ) (b : Block) → i < length bs
+joined_set : (bs : List Block) (i : ℕ) (b : Block) → i < length bs
     → joined (set bs i b) ≡ joined (take i bs) ++ (b.items ++ joined (drop (i + 1) bs))
 joined_set bs i b l = ap joined (set_split bs i b l)
     ∙ flat_map-append (λ (b : Block). b.items) (take i bs) (b ∷ drop (suc i) bs)

@@ -7,7 +7,7 @@ ghost use Rattle.measure_index.specs.Keys.{IsPlace, among};
 use cube_defs::Memory;
 use std::alloc::Global;
 
-// Appends a key if it is new.
+/// Appends a key if it is new.
 pub(crate) fn note<K: Copy>(came: &mut Vec<K>, item: K, added: bool)
     requires { vec_len came.old < vec_capacity came.old }
     ensures items { came.new.items ≡ came.old.items ++ (if added then item ∷ [] else []) }
