@@ -22,7 +22,8 @@ returns-in-Ok g c =
       stay = e.stay;
       same = e.same;
       skips = line-skips c.answer_command.result (wants_memory question ≡ true) (may_want_memory c.args.line.now ≡ true)
-          rose (file_named (Ok question)) (file_of c.args.pinned.now.now.state.schema c.args.line.now) c.in-Ok.ensures.wants (ap file_named gives) e.memory e.fault;
+          rose (file_named (Ok question)) (file_of c.args.pinned.now.now.state.schema c.args.line.now) c.in-Ok.ensures.wants
+          (ap file_named gives) e.memory e.fault;
       fault = IfErr-weaker c.answer_command.result _ _
           (λ stop h. fault-alone stop rose (file_named (Ok question)) h) e.fault;
       untold = e.untold;
