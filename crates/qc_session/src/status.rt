@@ -13,7 +13,8 @@ use qc_io::{Files, Sink};
 use std::alloc::Global;
 use std::mem;
 
-// An outcome that is left to the system when the program ends.
+// An outcome that is left to the system when the program ends. Its drop is a call, so this crate
+// needn't prove how each part of a warehouse is dropped.
 struct LeftOutcome {
     outcome: Outcome,
 }
