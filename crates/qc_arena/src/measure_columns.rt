@@ -170,6 +170,7 @@ impl MeasureColumns {
     }
 
     // Writes the parts of a node.
+    #[inline(never)]
     pub(crate) fn put(&mut self, node: u32, parts: &[Part; MAX_MEASURES as usize])
         requires { HasRoom self.old node }
         ensures here { shown self.new node ≡ parts.now }
@@ -208,6 +209,7 @@ impl MeasureColumns {
     }
 
     // Writes the parts of a class, if there is one.
+    #[inline(never)]
     pub(crate) fn put_class(&mut self, node: u32, class: &Option<Agg>)
         requires { HasRoom self.old node }
         ensures here { IfSome class.now (λ a. (shown self.new node ≡ a.parts)
