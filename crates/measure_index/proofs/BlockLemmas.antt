@@ -1,14 +1,18 @@
 -- The keys of blocks where one block changes.
-use Rattle.std.proofs.Common.{◌≡◌, ℕ, suc, ◌+◌, ◌-◌, ◌<◌, ◌≤◌, ◌++◌, Bool, true, false, refl, sym, ap, subst, ◌∙◌, List, [], ◌∷◌, take, drop, length, get_or, set, arith, ltb-true, ltb-false}
+use Rattle.std.proofs.Common.{◌≡◌, ℕ, suc, ◌+◌, ◌-◌, ◌<◌, ◌≤◌, ◌++◌, Bool, true, false, refl, sym, ap, subst, ◌∙◌, List, [], ◌∷◌, take}
+use Rattle.std.proofs.Common.{drop, length, get_or, set, arith, ltb-true, ltb-false}
 use Rattle.std.specs.Prelude.{Vec}
 use Rattle.std.specs.List.{insert, remove}
 use Rattle.std.specs.declared.alloc.Global.{Global}
 use Rattle.std.specs.Ordering.{is_eq, is_gt}
 use Rattle.std.specs.Prelude.{nat_lt}
 use Rattle.std.specs.List.Sorted.{IsStrictlySortedBy}
-use Rattle.std.proofs.lemmas.List.{append_assoc, drop_all, drop_at, drop_more, get_or_append_left, get_or_default, length-append, length-drop, length-take, length-take-le, nil_from_length, set_split, take-append-drop, take-append-le, take-take}
+use Rattle.std.proofs.lemmas.List.{append_assoc, drop_all, drop_at, drop_more, get_or_append_left, get_or_default, length-append}
+use Rattle.std.proofs.lemmas.List.{length-drop, length-take, length-take-le, nil_from_length, set_split, take-append-drop, take-append-le}
+use Rattle.std.proofs.lemmas.List.{take-take}
 use Rattle.std.proofs.lemmas.List.Concat.{flat_map-append}
-use Rattle.std.proofs.lemmas.List.Edits.{insert-append_left, insert-append_right, length-insert, length-remove, remove-append_left, remove-append_right}
+use Rattle.std.proofs.lemmas.List.Edits.{insert-append_left, insert-append_right, length-insert, length-remove, remove-append_left}
+use Rattle.std.proofs.lemmas.List.Edits.{remove-append_right}
 use Rattle.std.proofs.lemmas.List.Elements.{All-append, All-cons, All-drop, All-get_or, All-nil, All-set, All-take}
 use Rattle.measure_index.specs.Blocks.{AreBlocks, AreBounds, joined, place_of}
 use Rattle.measure_index.specs.ColumnKeys.{key_cmp, key_total}
