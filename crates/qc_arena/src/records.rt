@@ -12,7 +12,7 @@ ghost use Rattle.qc_arena.specs.Resized.{resized};
 ghost use Rattle.qc_arena.specs.RecordReaders.{edge_of, label_lt, number};
 
 use crate::Memory;
-use crate::edges::{Edges, PlainEdge, count, put_counted, take, target_in};
+use crate::edges::{Edges, PlainEdge, count, put, take, target_in};
 use crate::label_path::LabelPath;
 use crate::nodes::Forced;
 use aggregates::Agg;
@@ -156,7 +156,11 @@ impl NodeRecord {
         ensures has { IfOk result (λ n. n.1 ≡ length self.new.node.edges) }
         ensures err { OnErr result (self.new ≡ self.old) }
     {
-        put_counted(&mut self.edges, edge)
+        let had = count(&self.edges);
+        match put(&mut self.edges, edge) {
+            Ok(()) => Ok((had, count(&self.edges))),
+            Err(error) => Err(error),
+        }
     }
 
     // Makes room for so many more edges.
