@@ -30,14 +30,14 @@ pub record AreBounds (blocks : List (Vec Key Global)) (q : Key) (low high : ℕ)
 abbrev pub place_of : List (Vec Key Global) → ℕ → ℕ → ℕ
 place_of blocks block place = length (joined (take block blocks)) + place
 
--- what came of keys where a key was to come
+-- the keys before and after one is added, and whether it is new
 pub record HasCome (key : Key) (old new : List Key) (came : Bool) : Type 0 where
   pub added : came ≡ not (list_any (eq_by_cmp key_cmp key) old)
   pub has : (q : Key) → list_any (eq_by_cmp key_cmp q) new ≡ cond (eq_by_cmp key_cmp key q) true (list_any (eq_by_cmp key_cmp q) old)
   pub len : length new ≡ length old + (if came then 1 else 0)
   pub rising : IsStrictlySortedBy key_cmp new
 
--- what came of keys where a key was to go
+-- the keys before and after one is removed, and whether it was there
 pub record HasGone (key : Key) (old new : List Key) (gone : Bool) : Type 0 where
   pub has : (q : Key) → list_any (eq_by_cmp key_cmp q) new ≡ cond (eq_by_cmp key_cmp key q) false (list_any (eq_by_cmp key_cmp q) old)
   pub len : length new + (if gone then 1 else 0) ≡ length old
