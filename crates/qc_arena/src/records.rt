@@ -37,15 +37,15 @@ pub(crate) struct NodeRecord {
     trail: LabelPath<u8, u32>,
     noted: LabelPath<u32, Agg>,
     edges: Edges,
-    parent: u32,
-    code: Code,
     forced_code: u32,
-    forced_child: u32,
-    count: u32,
     dim: u8,
     forced_dim: u8,
     measures: u8,
     is_killed: bool,
+    forced_child: u32,
+    code: Code,
+    parent: u32,
+    count: u32,
 }
 
 impl Model for NodeRecord {
