@@ -31,7 +31,8 @@ const NO_CODE: u32 = u32::MAX;
 /// The record of a node. Its cell isn't stored: it follows from the labels on the way down from the
 /// root. The record has the last label and the parent. For a class it has COUNT and the number of
 /// measures; COUNT is 0 in other nodes. A killed node keeps its record under a mark. Up to two
-/// edges lie in the record itself, and more edges lie in a list.
+/// edges lie in the record itself, and more edges lie in a list. A search reads the fields from the
+/// edges to the forced label, so these come first.
 #[derive(Drop)]
 pub(crate) struct NodeRecord {
     trail: LabelPath<u8, u32>,

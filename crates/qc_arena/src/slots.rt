@@ -91,7 +91,7 @@ pub(crate) fn restore_all(
     }
 }
 
-// Frees the places of the killed nodes, if there are more places in use than nodes.
+// Frees the places of the killed nodes. Stops when there are no more places in use than nodes.
 pub(crate) fn free_places(nodes: &mut Slab<NodeSlot>, images: &Touched, live: u32)
     requires placed { (q : ℕ) → IsSome (image_at images.now q) → slots.ContainsKey nodes.old q }
     requires killed { (q : ℕ) → slots.get nodes.old q ≡ Some None → IsSome (image_at images.now q) }
@@ -99,19 +99,10 @@ pub(crate) fn free_places(nodes: &mut Slab<NodeSlot>, images: &Touched, live: u3
     ensures nodes { (q : ℕ) → join (slots.get nodes.new q) ≡ join (slots.get nodes.old q) }
     ensures none_killed { (q : ℕ) → slots.get nodes.new q ≢ Some None }
 {
-    if nodes.len() != live as usize {
-        free_killed(nodes, images);
-    }
-}
-
-// Frees the places of the killed nodes.
-fn free_killed(nodes: &mut Slab<NodeSlot>, images: &Touched)
-    requires placed { (q : ℕ) → IsSome (image_at images.now q) → slots.ContainsKey nodes.old q }
-    requires killed { (q : ℕ) → slots.get nodes.old q ≡ Some None → IsSome (image_at images.now q) }
-    ensures nodes { (q : ℕ) → join (slots.get nodes.new q) ≡ join (slots.get nodes.old q) }
-    ensures none_killed { (q : ℕ) → slots.get nodes.new q ≢ Some None }
-{
     'images: for k in 0..images.len() {
+        if nodes.len() == live as usize {
+            return;
+        }
         clear_killed(nodes, images.number(k));
     }
 }

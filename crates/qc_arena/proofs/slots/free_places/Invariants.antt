@@ -2,7 +2,7 @@ use Rattle.std.proofs.Common.{◌≡◌, ℕ, IsSome, None, Some}
 use Rattle.slab.specs.Slab as slots
 use Rattle.qc_arena.specs.Inside.{image_at, join}
 use Rattle.qc_arena.proofs.Suffixes.{suffix_from}
-use Rattle.qc_arena.proofs.slots.free_killed.Given as goal
+use Rattle.qc_arena.proofs.slots.free_places.Given as goal
 
 abbrev pub invariant-images : goal.invariant-images
 invariant-images l = record {
