@@ -12,6 +12,7 @@ mod boxes;
 mod law;
 mod order;
 mod sets;
+mod text_keys;
 
 pub use boxes::CellBox;
 use cell_core::{Cell, Code, Entry, Field, Fields, HashKeys};
@@ -22,6 +23,7 @@ pub use law::an_added_dimension_is_dropped;
 use sets::TextSet;
 use std::alloc::{AllocError, Global};
 use std::marker::Model;
+use text_keys::TextKeys;
 
 /// Why a text was not learnt.
 #[derive(Clone, Copy)]
@@ -77,7 +79,7 @@ impl Dict {
     {
         let mut lists = Vec::with_capacity(alloc, dims as usize)?;
         for _ in 0..dims {
-            lists.push_reserved(IndexSet::with_hasher(alloc, keys));
+            lists.push_reserved(IndexSet::with_hasher(alloc, TextKeys::of(keys)));
         }
         Ok(Dict { lists, max, keys })
     }
