@@ -2,10 +2,11 @@
 ghost use Rattle.cell_core.specs.Entry.{IsSmall};
 ghost use Rattle.std.specs.Prelude.{length, ◌≡◌};
 
+use crate::fields::{Asked, push, push_text};
 use cell_core::{
     Cell, Cells, Entry, Field, Fields, Text, Texts, last, leq, mask_of, meet_into, upto,
 };
-use std::alloc::{AllocError, Global};
+use std::alloc::Global;
 
 const ANY: Entry = Entry::Any;
 
@@ -38,108 +39,123 @@ fn are_cells_ordered(alloc: Global) -> bool {
     let front = cell(alloc, Entry::Is(1), ANY, ANY);
     let tuple = cell(alloc, Entry::Is(1), Entry::Is(0), Entry::Is(2));
     let other = cell(alloc, Entry::Is(2), ANY, ANY);
+    let all = Cell::any(alloc, 3);
     leq(&front, &tuple)
         && leq(&tuple, &tuple)
-        && leq(&Cell::any(alloc, 3), &front)
+        && leq(&all, &front)
         && !leq(&tuple, &front)
         && !leq(&other, &tuple)
 }
 
+// Whether a cell has an entry in a dimension.
+fn has(cell: &Cell, dim: u8, entry: Entry) -> bool {
+    dim < cell.dims() && cell.get(dim) == entry
+}
+
 fn is_meet(alloc: Global) -> bool {
     let mut meet = cell(alloc, Entry::Is(1), Entry::Is(5), Entry::Is(2));
-    let second = cell(alloc, Entry::Is(1), Entry::Is(6), Entry::Is(2));
-    meet_into(&mut meet, &second);
-    let is_first = meet.get(0) == Entry::Is(1)
-        && meet.get(1) == ANY
-        && meet.get(2) == Entry::Is(2)
+    meet_into(
+        &mut meet,
+        &cell(alloc, Entry::Is(1), Entry::Is(6), Entry::Is(2)),
+    );
+    let is_first = has(&meet, 0, Entry::Is(1))
+        && has(&meet, 1, ANY)
+        && has(&meet, 2, Entry::Is(2))
         && mask_of(&meet) == 5;
-    let third = cell(alloc, ANY, Entry::Is(5), Entry::Is(2));
-    meet_into(&mut meet, &third);
+    meet_into(&mut meet, &cell(alloc, ANY, Entry::Is(5), Entry::Is(2)));
     is_first && mask_of(&meet) == 4
+}
+
+// Cuts a cell of three entries, of which the second is Any.
+fn are_cut(front: &mut Cell) -> bool
+    requires { length front.old ≡ 3 }
+{
+    let is_whole = last(front) == Some(2);
+    upto(front, 2);
+    let is_same = has(front, 2, Entry::Is(9));
+    upto(front, 1);
+    is_whole && is_same && has(front, 0, Entry::Is(7)) && has(front, 2, ANY)
 }
 
 // Prefixes end at a dimension.
 fn are_prefixes(alloc: Global) -> bool {
     let mut front = cell(alloc, Entry::Is(7), ANY, Entry::Is(9));
-    let is_whole = last(&front) == Some(2);
-    upto(&mut front, 2);
-    let is_same = front.get(2) == Entry::Is(9);
-    upto(&mut front, 1);
-    is_whole
-        && is_same
-        && front.get(0) == Entry::Is(7)
-        && front.get(2) == ANY
-        && last(&front) == Some(0)
-        && last(&Cell::any(alloc, 3)).is_none()
+    let are_cut = are_cut(&mut front);
+    let none = Cell::any(alloc, 3);
+    are_cut && last(&front) == Some(0) && last(&none).is_none()
 }
 
-fn are_cells_listed(alloc: Global) -> Result<bool, AllocError> {
-    let mut cells = Cells::new(alloc);
-    let is_new = cells.is_empty();
-    let tuple = cell(alloc, Entry::Is(1), Entry::Is(2), Entry::Is(3));
-    cells.push(tuple.copy())?;
-    cells.push(Cell::any(alloc, 2))?;
-    Ok(
-        is_new
-            && cells.len() == 2
-            && leq(cells.get(0), &tuple)
-            && leq(&tuple, cells.get(0))
-            && cells.get(1).dims() == 2,
-    )
+fn push_cell(cells: &mut Cells, cell: Cell) -> bool {
+    cells.len() < 9 && cells.push(cell).is_ok()
 }
 
-fn push_texts(alloc: Global, texts: &mut Texts) -> Result<(), AllocError>
-    requires { length texts.old ≡ 0 }
+// Whether a list has a cell of three dimensions and one of two.
+fn are_both(cells: &Cells, first: &Cell) -> bool
+    requires { length first.now ≡ 3 }
 {
-    texts.push(Text::new(alloc, "S1")?)?;
-    texts.push(Text::new(alloc, "")?)
+    if cells.len() != 2 || cells.get(0).dims() != 3 {
+        return false;
+    }
+    leq(cells.get(0), first) && leq(first, cells.get(0)) && cells.get(1).dims() == 2
+}
+
+fn are_cells_listed(alloc: Global) -> bool {
+    let mut cells = Cells::new(alloc);
+    let tuple = cell(alloc, Entry::Is(1), Entry::Is(2), Entry::Is(3));
+    let are_listed = cells.is_empty()
+        && push_cell(&mut cells, tuple.copy())
+        && push_cell(&mut cells, Cell::any(alloc, 2))
+        && are_both(&cells, &tuple);
+    drop(cells);
+    are_listed
+}
+
+fn is_text(text: &Text, want: &str) -> bool {
+    text.as_str() == want
 }
 
 fn are_texts_listed(alloc: Global) -> bool {
     let mut texts = Texts::new(alloc);
-    let is_new = texts.is_empty();
-    let are_pushed = push_texts(alloc, &mut texts).is_ok();
-    is_new
-        && are_pushed
+    let are_pushed = texts.is_empty()
+        && push_text(alloc, &mut texts, "S1")
+        && push_text(alloc, &mut texts, "");
+    let are_listed = are_pushed
         && texts.len() == 2
-        && texts.get(0).as_str() == "S1"
-        && texts.get(1).as_str() == ""
-}
-
-fn between(alloc: Global, lo: &str, hi: &str) -> Result<Field, AllocError> {
-    Ok(Field::Between(Text::new(alloc, lo)?, Text::new(alloc, hi)?))
-}
-
-fn push_fields(alloc: Global, fields: &mut Fields) -> Result<(), AllocError>
-    requires { length fields.old ≡ 0 }
-{
-    fields.push(Field::Any)?;
-    fields.push(Field::One(Text::new(alloc, "P1")?))?;
-    fields.push(between(alloc, "a", "b")?)
+        && is_text(texts.get(0), "S1")
+        && is_text(texts.get(1), "");
+    drop(texts);
+    are_listed
 }
 
 fn is_one(field: &Field, text: &str) -> bool {
     match field {
-        Field::One(one) => one.as_str() == text,
+        Field::One(one) => is_text(one, text),
         _ => false,
     }
 }
 
 fn is_between(field: &Field, first: &str, second: &str) -> bool {
     match field {
-        Field::Between(lo, hi) => lo.as_str() == first && hi.as_str() == second,
+        Field::Between(lo, hi) => is_text(lo, first) && is_text(hi, second),
         _ => false,
     }
 }
 
-fn are_fields_listed(alloc: Global) -> bool {
-    let mut fields = Fields::new(alloc);
-    let are_pushed = push_fields(alloc, &mut fields).is_ok();
-    are_pushed
-        && fields.len() == 3
+fn are_three(fields: &Fields) -> bool {
+    fields.len() == 3
         && matches!(fields.get(0), Field::Any)
         && is_one(fields.get(1), "P1")
         && is_between(fields.get(2), "a", "b")
+}
+
+fn are_fields_listed(alloc: Global) -> bool {
+    let mut fields = Fields::new(alloc);
+    let are_listed = push(alloc, &mut fields, Asked::Any)
+        && push(alloc, &mut fields, Asked::One("P1"))
+        && push(alloc, &mut fields, Asked::Between("a", "b"))
+        && are_three(&fields);
+    drop(fields);
+    are_listed
 }
 
 /// Whether cells are set and compared, and lists stay in order.
@@ -148,7 +164,7 @@ pub(crate) fn are_right(alloc: Global) -> bool {
         && are_cells_ordered(alloc)
         && is_meet(alloc)
         && are_prefixes(alloc)
-        && matches!(are_cells_listed(alloc), Ok(true))
+        && are_cells_listed(alloc)
         && are_texts_listed(alloc)
         && are_fields_listed(alloc)
 }

@@ -60,27 +60,40 @@ static ENDS: [(u32, &str); 3] = [
     ),
 ];
 
-fn are_files_right(alloc: Global, case: &Drawn) -> bool {
-    let (rows, seed, base, before, batch, end) = *case;
-    if rows > MAX_ROWS || before >= BATCHES {
-        return false;
-    }
-    let mut draws = Draws { state: seed };
-    let mut file = Vec::new(alloc);
-    let is_base = write_base(&mut file, rows, &mut draws).is_ok()
-        && file.as_slice() == base.as_bytes();
-    let is_batch = write_batch(&mut file, rows, before, &mut draws).is_ok()
-        && file.as_slice() == batch.as_bytes();
-    is_base && is_batch && draws.state == end
+fn is_base(file: &mut Vec<u8>, rows: u32, draws: &mut Draws, text: &str) -> bool {
+    rows <= MAX_ROWS && write_base(file, rows, draws).is_ok() && file.as_slice() == text.as_bytes()
 }
 
-fn is_end_right(alloc: Global, rows: u32, end: &str) -> bool {
-    if rows > MAX_ROWS {
-        return false;
-    }
-    let mut draws = Draws { state: 7 };
+fn is_batch(file: &mut Vec<u8>, rows: u32, before: u32, draws: &mut Draws, text: &str) -> bool {
+    rows <= MAX_ROWS
+        && before < BATCHES
+        && write_batch(file, rows, before, draws).is_ok()
+        && file.as_slice() == text.as_bytes()
+}
+
+fn are_files_right(alloc: Global, case: &Drawn) -> bool {
+    let (rows, seed, base, before, batch, end) = *case;
+    let mut draws = Draws { state: seed };
     let mut file = Vec::new(alloc);
-    write_base(&mut file, rows, &mut draws).is_ok() && file.as_slice().ends_with(end.as_bytes())
+    let are_right = is_base(&mut file, rows, &mut draws, base)
+        && is_batch(&mut file, rows, before, &mut draws, batch);
+    drop(file);
+    are_right && draws.state == end
+}
+
+fn is_end(file: &mut Vec<u8>, rows: u32, end: &str) -> bool {
+    let mut draws = Draws { state: 7 };
+    rows <= MAX_ROWS
+        && write_base(file, rows, &mut draws).is_ok()
+        && file.as_slice().ends_with(end.as_bytes())
+}
+
+fn is_end_right(alloc: Global, case: &(u32, &str)) -> bool {
+    let (rows, end) = *case;
+    let mut file = Vec::new(alloc);
+    let is_end = is_end(&mut file, rows, end);
+    drop(file);
+    is_end
 }
 
 /// Whether files of few rows and the last rows of others are right.
@@ -90,8 +103,8 @@ pub(crate) fn are_right(alloc: Global) -> bool {
             return false;
         }
     }
-    'ends: for (rows, end) in &ENDS {
-        if !is_end_right(alloc, *rows, *end) {
+    'ends: for case in &ENDS {
+        if !is_end_right(alloc, case) {
             return false;
         }
     }

@@ -1,13 +1,11 @@
 // Cells and boxes that fields ask for, in the order of texts.
-ghost use Rattle.std.specs.Prelude.{length, ◌≡◌};
-
 use cell_core::{Cell, Code, Entry, Field, Fields, Text, Texts};
 use std::alloc::{AllocError, Global};
 use std::cmp::Ordering;
-use value_dict::Dict;
+use value_dict::{CellBox, Dict};
 
 #[derive(Clone, Copy)]
-enum Asked {
+pub(crate) enum Asked {
     Any,
     All,
     One(&'static str),
@@ -20,57 +18,87 @@ use Asked::{All, Among, Any, Between, One};
 
 static LISTED: [&str; 4] = ["b", "c", "", "b"];
 
-fn push_listed(alloc: Global, texts: &mut Texts) -> Result<(), AllocError> {
+// Appends a text to a short list.
+pub(crate) fn push_text(alloc: Global, texts: &mut Texts, word: &str) -> bool {
+    if texts.len() > 9 {
+        return false;
+    }
+    match Text::new(alloc, word) {
+        Ok(text) => texts.push(text).is_ok(),
+        Err(_) => false,
+    }
+}
+
+fn push_listed(alloc: Global, texts: &mut Texts) -> bool {
     'words: for word in &LISTED {
-        if texts.len() < 9 {
-            texts.push(Text::new(alloc, *word)?)?;
+        if !push_text(alloc, texts, *word) {
+            return false;
         }
     }
-    Ok(())
+    true
 }
 
-fn among(alloc: Global) -> Result<Field, AllocError> {
+fn among(alloc: Global) -> Option<Field> {
     let mut texts = Texts::new(alloc);
-    match push_listed(alloc, &mut texts) {
-        Ok(()) => Ok(Field::Among(texts)),
-        Err(error) => {
-            drop(texts);
-            Err(error)
-        }
+    if push_listed(alloc, &mut texts) {
+        Some(Field::Among(texts))
+    } else {
+        drop(texts);
+        None
     }
 }
 
-fn field(alloc: Global, asked: Asked) -> Result<Field, AllocError> {
+fn one(alloc: Global, word: &str) -> Option<Field> {
+    match Text::new(alloc, word) {
+        Ok(text) => Some(Field::One(text)),
+        Err(_) => None,
+    }
+}
+
+fn between(alloc: Global, low: &str, high: &str) -> Option<Field> {
+    let Ok(low) = Text::new(alloc, low) else {
+        return None;
+    };
+    let Ok(high) = Text::new(alloc, high) else {
+        drop(low);
+        return None;
+    };
+    Some(Field::Between(low, high))
+}
+
+fn field(alloc: Global, asked: Asked) -> Option<Field> {
     match asked {
-        Any => Ok(Field::Any),
-        All => Ok(Field::All),
-        One(word) => Ok(Field::One(Text::new(alloc, word)?)),
+        Any => Some(Field::Any),
+        All => Some(Field::All),
+        One(word) => one(alloc, word),
         Among => among(alloc),
-        Between(low, high) => Ok(Field::Between(Text::new(alloc, low)?, Text::new(alloc, high)?)),
+        Between(low, high) => between(alloc, low, high),
     }
 }
 
-fn push_both(
-    alloc: Global,
-    fields: &mut Fields,
-    first: Asked,
-    second: Asked,
-) -> Result<(), AllocError>
-    requires { length fields.old ≡ 0 }
-{
-    fields.push(field(alloc, first)?)?;
-    fields.push(field(alloc, second)?)
+fn push_field(fields: &mut Fields, field: Field) -> bool {
+    if fields.len() > 9 {
+        drop(field);
+        return false;
+    }
+    fields.push(field).is_ok()
 }
 
-fn fields(alloc: Global, first: Asked, second: Asked) -> Result<Fields, AllocError> {
+/// Appends what is asked to a short list.
+pub(crate) fn push(alloc: Global, fields: &mut Fields, asked: Asked) -> bool {
+    match field(alloc, asked) {
+        Some(field) => push_field(fields, field),
+        None => false,
+    }
+}
+
+fn fields(alloc: Global, first: Asked, second: Asked) -> Option<Fields> {
     let mut fields = Fields::new(alloc);
-    match push_both(alloc, &mut fields, first, second) {
-        Ok(()) => Ok(fields),
-        Err(error) => {
-            drop(fields);
-            Err(error)
-        }
+    if push(alloc, &mut fields, first) && push(alloc, &mut fields, second) {
+        return Some(fields);
     }
+    drop(fields);
+    None
 }
 
 fn learn(dict: &mut Dict, dim: u8, word: &str) {
@@ -91,21 +119,12 @@ fn letters(alloc: Global) -> Result<Dict, AllocError> {
     Ok(dict)
 }
 
-// The cell that two fields ask for, where they ask for one.
-fn cell(
-    alloc: Global,
-    dict: &Dict,
-    first: Asked,
-    second: Asked,
-) -> Result<Option<Cell>, AllocError> {
-    let fields = fields(alloc, first, second)?;
-    let found = if fields.len() == u32::from(dict.dims()) {
-        dict.cell_of(&fields)
-    } else {
-        None
-    };
-    drop(fields);
-    Ok(found)
+// The cell that the fields ask for, where they ask for one.
+fn cell_of(dict: &Dict, fields: &Fields) -> Option<Cell> {
+    if fields.len() != u32::from(dict.dims()) {
+        return None;
+    }
+    dict.cell_of(fields)
 }
 
 // Two fields, and the entries of the cell that they ask for, where they ask for one.
@@ -118,20 +137,27 @@ static CELLS: [Asking; 4] = [
     (All, Any, None),
 ];
 
-fn has_entries(cell: &Cell, first: Entry, second: Entry) -> bool {
+pub(crate) fn has_entries(cell: &Cell, first: Entry, second: Entry) -> bool {
     cell.dims() == 2 && cell.get(0) == first && cell.get(1) == second
+}
+
+// Whether the fields ask for a cell of these entries, or for none.
+fn gives(dict: &Dict, fields: &Fields, want: Option<(Entry, Entry)>) -> bool {
+    match (cell_of(dict, fields), want) {
+        (Some(cell), Some((first, second))) => has_entries(&cell, first, second),
+        (None, None) => true,
+        _ => false,
+    }
 }
 
 fn is_cell(alloc: Global, dict: &Dict, case: &Asking) -> bool {
     let (first, second, want) = *case;
-    let Ok(found) = cell(alloc, dict, first, second) else {
+    let Some(fields) = fields(alloc, first, second) else {
         return false;
     };
-    match (&found, want) {
-        (Some(cell), Some((first, second))) => has_entries(cell, first, second),
-        (None, None) => true,
-        _ => false,
-    }
+    let is_cell = gives(dict, &fields, want);
+    drop(fields);
+    is_cell
 }
 
 fn are_cells(alloc: Global, dict: &Dict) -> bool {
@@ -153,6 +179,10 @@ static BOXES: [(Asked, &[Code]); 7] = [
     (One("z"), &[]),
 ];
 
+fn is_first(cells: &CellBox, want: &[Code]) -> bool {
+    cells.dims() > 0 && cells.codes(0).unwrap_or(&[]) == want
+}
+
 // Whether the first of these fields asks for these codes.
 fn has_codes(alloc: Global, dict: &Dict, fields: &Fields, want: &[Code]) -> bool {
     if fields.len() != u32::from(dict.dims()) {
@@ -161,14 +191,14 @@ fn has_codes(alloc: Global, dict: &Dict, fields: &Fields, want: &[Code]) -> bool
     let Ok(cells) = dict.box_of(alloc, fields) else {
         return false;
     };
-    let has_codes = cells.dims() > 0 && cells.codes(0).unwrap_or(&[]) == want;
+    let is_first = is_first(&cells, want);
     drop(cells);
-    has_codes
+    is_first
 }
 
 // Whether a field asks for these codes.
 fn is_box(alloc: Global, dict: &Dict, asked: Asked, want: &[Code]) -> bool {
-    let Ok(fields) = fields(alloc, asked, Any) else {
+    let Some(fields) = fields(alloc, asked, Any) else {
         return false;
     };
     let has_codes = has_codes(alloc, dict, &fields, want);
@@ -194,15 +224,20 @@ static ORDERS: [Ordered; 3] = [
     (One("b"), One("b"), Ordering::Equal),
 ];
 
+// The cell that a field and Any ask for, where they ask for one.
+fn cell(alloc: Global, dict: &Dict, asked: Asked) -> Option<Cell> {
+    let fields = fields(alloc, asked, Any)?;
+    let cell = cell_of(dict, &fields);
+    drop(fields);
+    cell
+}
+
 fn is_order(alloc: Global, dict: &Dict, case: &Ordered) -> bool {
     let (one, other, want) = *case;
-    let Ok(Some(one)) = cell(alloc, dict, one, Any) else {
-        return false;
-    };
-    let Ok(Some(other)) = cell(alloc, dict, other, Any) else {
-        return false;
-    };
-    dict.cell_cmp(&one, &other) == want
+    match (cell(alloc, dict, one), cell(alloc, dict, other)) {
+        (Some(one), Some(other)) => dict.cell_cmp(&one, &other) == want,
+        _ => false,
+    }
 }
 
 fn are_ordered(alloc: Global, dict: &Dict) -> bool {

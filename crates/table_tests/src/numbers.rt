@@ -1,4 +1,6 @@
 // Numbers as they are read and printed, and what rows come to.
+ghost use Rattle.std.specs.Prelude.{◌≡◌};
+ghost use Rattle.aggregates.specs.Views.{IsThere};
 
 use aggregates::{
     Agg, AggKind, Part, Ratio, compare, mean, print_amount, print_number, print_ratio, read_amount,
@@ -173,21 +175,33 @@ fn is_part(part: Part, sum: i64, least: i64, greatest: i64) -> bool {
     part.sum == sum && part.least == least && part.greatest == greatest
 }
 
+// Whether the value of a kind of what rows come to is printed so.
+fn is_value(agg: &Agg, kind: AggKind, text: &[u8]) -> bool
+    requires { IsThere agg.now.measures kind }
+{
+    is_ratio_printed(&value_of(agg, kind, 2), text)
+}
+
+fn are_values(agg: &Agg) -> bool
+    requires { agg.now.measures ≡ 1 }
+{
+    is_ratio_printed(&mean(agg, 0, 2), b"-17/10")
+        && is_value(agg, AggKind::Count, b"3/1")
+        && is_value(agg, AggKind::Sum(0), b"-51/10")
+        && is_value(agg, AggKind::Least(0), b"-12/1")
+        && is_value(agg, AggKind::Greatest(0), b"6/1")
+        && is_value(agg, AggKind::Mean(0), b"-17/10")
+}
+
 // The rows with the amounts 600, -1200 and 90, added up.
 fn are_three_rows_added() -> bool {
     let mut agg = Agg::one(&[600]);
     agg.add_row(&[-1200]);
     agg.combine(&Agg::one(&[90]));
-    agg.count == 3
-        && agg.measures == 1
-        && is_part(agg.parts[0], -510, -1200, 600)
-        && agg.parts[1].sum == 0
-        && is_ratio_printed(&mean(&agg, 0, 2), b"-17/10")
-        && is_ratio_printed(&value_of(&agg, AggKind::Count, 2), b"3/1")
-        && is_ratio_printed(&value_of(&agg, AggKind::Sum(0), 2), b"-51/10")
-        && is_ratio_printed(&value_of(&agg, AggKind::Least(0), 2), b"-12/1")
-        && is_ratio_printed(&value_of(&agg, AggKind::Greatest(0), 2), b"6/1")
-        && is_ratio_printed(&value_of(&agg, AggKind::Mean(0), 2), b"-17/10")
+    if agg.count != 3 || agg.measures != 1 {
+        return false;
+    }
+    is_part(agg.parts[0], -510, -1200, 600) && agg.parts[1].sum == 0 && are_values(&agg)
 }
 
 fn is_order(text: &[u8], order: Ordering) -> bool {

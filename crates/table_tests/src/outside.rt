@@ -1,5 +1,6 @@
 // Files that are read whole, and sinks that are written to.
-ghost use Rattle.std.specs.Prelude.{IfSome, None, ◌≡◌};
+ghost use Rattle.std.specs.Prelude.{IfSome, IsSome, None, ◌≡◌};
+ghost use Rattle.qc_io.specs.Memory.{after_read};
 
 use cube_defs::MAX_FILE;
 use qc_io::{
@@ -7,14 +8,21 @@ use qc_io::{
     WriteFailed, read_all, write_all,
 };
 use std::alloc::{AllocError, Global};
-use std::{fs, io, mem};
+use std::{fs, io};
 
 // How a reading ends, where it doesn't end for memory.
-#[derive(Clone, Copy, PartialEq, Eq)]
+#[derive(Clone, Copy)]
 enum End<'a> {
     Whole(&'a [u8]),
     Failed,
     TooLong,
+}
+
+fn is_whole(bytes: &[u8], end: End<'_>) -> bool {
+    match end {
+        End::Whole(want) => bytes == want,
+        _ => false,
+    }
 }
 
 // Whether the file is read with this end, at most so many bytes of it.
@@ -23,9 +31,13 @@ fn ends<F: Files>(alloc: Global, files: &mut F, name: &str, limit: usize, end: E
         return false;
     }
     match read_all(alloc, files, name, limit) {
-        Ok(bytes) => end == End::Whole(bytes.as_slice()),
-        Err(ReadRefused::Failed) => end == End::Failed,
-        Err(ReadRefused::TooLong) => end == End::TooLong,
+        Ok(bytes) => {
+            let is_whole = is_whole(&bytes, end);
+            drop(bytes);
+            is_whole
+        }
+        Err(ReadRefused::Failed) => matches!(end, End::Failed),
+        Err(ReadRefused::TooLong) => matches!(end, End::TooLong),
         Err(ReadRefused::Memory) => false,
     }
 }
@@ -165,24 +177,36 @@ fn is_long_file_read(alloc: Global) -> bool {
     }
 }
 
-// Whether a file may be added while another is open, which is read on.
-fn adds_meanwhile(files: &mut MemoryFiles) -> Result<bool, AllocError>
-    requires { files.old.store.open_name ≡ None }
+// Whether a read of the open file gives these bytes.
+fn gives(files: &mut MemoryFiles, want: &[u8]) -> bool
+    requires { IsSome files.old.store.current }
+    ensures { files.new ≡ after_read files.old 8 }
 {
-    files.add("a", b"abcdef")?;
-    if files.open("a").is_err() {
-        return Ok(false);
-    }
     let mut buf = [0u8; 8];
-    let is_first = files.read(&mut buf) == Ok(4) && &buf[..4] == b"abcd".as_slice();
-    files.add("b", b"uvw")?;
-    let is_second = files.read(&mut buf) == Ok(2) && &buf[..2] == b"ef".as_slice();
-    let is_end = files.read(&mut buf) == Ok(0);
-    Ok(is_first && is_second && is_end)
+    match files.read(&mut buf) {
+        Ok(count) => &buf[..count] == want,
+        Err(_) => false,
+    }
 }
 
-fn may_be_added_meanwhile(alloc: Global) -> Result<bool, AllocError> {
-    let mut files = MemoryFiles::new(alloc, &[], 4)?;
+// Whether a file may be added while another is open, which is read on.
+fn adds_meanwhile(files: &mut MemoryFiles) -> bool
+    requires { files.old.store.open_name ≡ None }
+{
+    if files.add("a", b"abcdef").is_err() || files.open("a").is_err() {
+        return false;
+    }
+    let is_first = gives(files, b"abcd");
+    if files.add("b", b"uvw").is_err() {
+        return false;
+    }
+    is_first && gives(files, b"ef") && gives(files, b"")
+}
+
+fn may_be_added_meanwhile(alloc: Global) -> bool {
+    let Ok(mut files) = MemoryFiles::new(alloc, &[], 4) else {
+        return false;
+    };
     let is_right = adds_meanwhile(&mut files);
     drop(files);
     is_right
@@ -218,13 +242,16 @@ fn is_written<S: Sink>(sink: &mut S, bytes: &[u8], stop: Option<usize>) -> bool 
     }
 }
 
+// Whether that is written, and the sink then has just these bytes.
+fn takes(sink: &mut MemorySink, bytes: &[u8], stop: Option<usize>, all: &[u8]) -> bool {
+    is_written(sink, bytes, stop) && sink.bytes() == all
+}
+
 // Whether a sink that fails at its second write takes what has room.
 fn is_filled(sink: &mut MemorySink) -> bool {
-    let is_cut = is_written(sink, b"abc", Some(2)) && sink.bytes() == b"ab".as_slice();
-    is_cut
-        && is_written(sink, b"", None)
-        && is_written(sink, b"cdefg", Some(3))
-        && sink.bytes() == b"abcde".as_slice()
+    takes(sink, b"abc", Some(2), b"ab")
+        && takes(sink, b"", None, b"ab")
+        && takes(sink, b"cdefg", Some(3), b"abcde")
         && sink.write(b"h").is_err()
 }
 
@@ -237,20 +264,27 @@ fn takes_what_has_room(alloc: Global) -> bool {
     is_filled
 }
 
-/// Whether a file of the system is read, and failed once it is gone.
-pub(crate) fn is_system_file_read(rt: &HostRuntime) -> io::Result<bool> {
-    let alloc = rt.alloc();
-    fs::write(rt, "qc_io_ten", b"0123456789".as_slice())?;
-    let mut files = RealFiles::new(rt);
-    let is_read = all_end(alloc, &mut files, &SYSTEM);
-    fs::remove_file(rt, "qc_io_ten")?;
-    Ok(is_read && ends(alloc, &mut files, "qc_io_ten", 10, End::Failed))
-}
-
 static SYSTEM: [Reading; 2] = [
     ("qc_io_ten", 10, End::Whole(b"0123456789")),
     ("qc_io_ten", 9, End::TooLong),
 ];
+
+static GONE: [Reading; 1] = [("qc_io_ten", 10, End::Failed)];
+
+fn is_read_and_gone(rt: &HostRuntime, files: &mut RealFiles<'_, HostRuntime>) -> io::Result<bool> {
+    let is_read = all_end(rt.alloc(), files, &SYSTEM);
+    fs::remove_file(rt, "qc_io_ten")?;
+    Ok(is_read && all_end(rt.alloc(), files, &GONE))
+}
+
+/// Whether a file of the system is read, and failed once it is gone.
+pub(crate) fn is_system_file_read(rt: &HostRuntime) -> io::Result<bool> {
+    fs::write(rt, "qc_io_ten", b"0123456789".as_slice())?;
+    let mut files = RealFiles::new(rt);
+    let is_read = is_read_and_gone(rt, &mut files);
+    drop(files);
+    is_read
+}
 
 // Rust's writer into a slice takes no bytes once the slice is full.
 fn is_slice_filled() -> bool {
@@ -266,7 +300,7 @@ pub(crate) fn are_right(alloc: Global) -> bool {
         && fail_at_each_call(alloc)
         && are_read(alloc, &[], 4, &SAME_NAME, &REPLACED)
         && is_long_file_read(alloc)
-        && matches!(may_be_added_meanwhile(alloc), Ok(true))
+        && may_be_added_meanwhile(alloc)
         && has_every_name(alloc)
         && takes_what_has_room(alloc)
         && is_written(&mut SureSink::new(), b"abc", None)

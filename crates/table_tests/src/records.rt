@@ -30,18 +30,22 @@ fn is_next(rows: &mut RecordReader<'_>, row: &mut ByteRecord, comes: bool) -> bo
     }
 }
 
-// Two records with a line between them: of two fields, the second with a quote, and of one.
+// Two records: of two fields, the second with a quote, and of one.
+fn are_two(rows: &mut RecordReader<'_>, row: &mut ByteRecord) -> bool {
+    if !is_next(rows, row, true) || row.len() != 2 || field(row, 1) != b"b\"c".as_slice() {
+        return false;
+    }
+    is_next(rows, row, true) && row.len() == 1 && is_next(rows, row, false)
+}
+
+// The same with a line between them.
 fn are_records_read(alloc: Global) -> bool {
     let mut rows = RecordReader::new(alloc, b"a,\"b\"\"c\"\n\nd\n");
     let mut row = ByteRecord::new(alloc);
-    let is_first = is_next(&mut rows, &mut row, true);
-    let is_two = row.len() == 2 && field(&row, 1) == b"b\"c".as_slice();
-    let is_second = is_next(&mut rows, &mut row, true);
-    let is_one = row.len() == 1;
-    let is_end = is_next(&mut rows, &mut row, false);
+    let are_two = are_two(&mut rows, &mut row);
     drop(row);
     drop(rows);
-    is_first && is_two && is_second && is_one && is_end
+    are_two
 }
 
 /// Whether lines and records are read.

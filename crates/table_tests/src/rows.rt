@@ -1,8 +1,9 @@
 // Batches of changes, and the rows that they leave.
 ghost use Rattle.std.specs.Prelude.{All, None, is_some, length, nat_abs, true, ◌<◌, ◌≡◌, ◌≤◌};
+ghost use Rattle.base_table.specs.Places.{AreThere};
 
-use base_table::{Table, TableRefused};
-use cell_core::{Cell, Code, Entry};
+use base_table::{RowNo, Table, TableRefused};
+use cell_core::{Cell, Entry};
 use cube_defs::MAX_AMOUNT;
 use std::alloc::Global;
 
@@ -94,20 +95,29 @@ fn have_replies(alloc: Global, table: &mut Table, changes: &[(Change, Reply)]) -
     all
 }
 
-// Whether these are the amounts of all rows, in their order.
-fn are_amounts(alloc: Global, table: &Table, want: &[i64]) -> bool {
-    let Ok(nos) = table.all(alloc) else {
-        return false;
-    };
-    if nos.len() != want.len() || table.measures() == 0 {
+// Whether these are the amounts of the rows.
+fn have_amounts(table: &Table, rows: &[RowNo], want: &[i64]) -> bool
+    requires { AreThere table.now rows.now }
+{
+    if rows.len() != want.len() || table.measures() == 0 {
         return false;
     }
-    'rows: for k in 0..nos.len() {
-        if table.amount(nos[k], 0) != want[k] {
+    'rows: for k in 0..rows.len() {
+        if table.amount(rows[k], 0) != want[k] {
             return false;
         }
     }
     true
+}
+
+// Whether these are the amounts of all rows, in their order.
+fn are_amounts(alloc: Global, table: &Table, want: &[i64]) -> bool {
+    let Ok(rows) = table.all(alloc) else {
+        return false;
+    };
+    let have_amounts = have_amounts(table, &rows, want);
+    drop(rows);
+    have_amounts
 }
 
 // Whether just the places that are true have a row.
@@ -293,21 +303,18 @@ fn all_right(alloc: Global, max: u32, batches: &[Batch]) -> bool
     all
 }
 
-// The codes, the second entry of the tuple and the amount of the row at the first place.
-type Seen = Option<(Code, Code, Entry, i64)>;
-
-fn first_row(table: &Table) -> Seen {
+// Whether the row at the first place has the codes 7 and 9 and the amount -5.
+fn is_first_row(table: &Table) -> bool {
     if table.places() == 0 || table.dims() != 2 || table.measures() != 1 {
-        return None;
+        return false;
     }
-    let row = table.at(0)?;
-    let amounts = table.amounts(row);
-    Some((
-        table.code(row, 0),
-        table.code(row, 1),
-        table.tuple(row).get(1),
-        amounts[0],
-    ))
+    let Some(row) = table.at(0) else {
+        return false;
+    };
+    table.code(row, 0) == 7
+        && table.code(row, 1) == 9
+        && table.tuple(row).get(1) == Entry::Is(9)
+        && table.amounts(row)[0] == -5
 }
 
 // The amounts of a row that is taken out of an open table, and zeros where it isn't there.
@@ -320,24 +327,22 @@ fn taken_out(table: &mut Table, id: u64) -> [i64; 4]
     }
 }
 
-// Puts a row into a table and takes it out again: the row, and the amounts that went.
-fn read_and_taken(alloc: Global, id: u64) -> Option<(Seen, [i64; 4])> {
+// Whether a row is put into a table, read and taken out again.
+fn is_read_and_taken(alloc: Global, id: u64) -> bool {
     let Ok(mut table) = Table::new(alloc, 2, 1, 1) else {
-        return None;
+        return false;
     };
     table.begin();
     make(alloc, &mut table, Insert(id, 7, 9, -5));
-    let seen = first_row(&table);
+    let is_read = is_first_row(&table);
     let amounts = taken_out(&mut table, id);
     drop(table);
-    Some((seen, amounts))
+    is_read && amounts == [-5, 0, 0, 0]
 }
 
 /// Whether batches change the rows, and a row is read and taken out.
 pub(crate) fn are_right(alloc: Global) -> bool {
-    let found = read_and_taken(alloc, 18_446_744_073_709_551_615);
-    let row = Some((7, 9, Entry::Is(9), -5));
-    found == Some((row, [-5, 0, 0, 0]))
+    is_read_and_taken(alloc, 18_446_744_073_709_551_615)
         && all_right(alloc, 2, &REFUSED)
         && all_right(alloc, 4, &TAKEN_BACK)
         && all_right(alloc, 6, &EMPTY_PLACES)

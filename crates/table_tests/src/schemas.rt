@@ -4,18 +4,32 @@ use aggregates::AggKind;
 use qc_schema::{Schema, read_schema};
 use std::alloc::Global;
 
-// Whether the dimensions and the measure are these.
-fn has_names(schema: &Schema, first: &str, second: &str, measure: &str, scale: u8) -> bool {
-    schema.dims() == 2
-        && schema.measures() == 1
-        && schema.dim_name(0) == first
-        && schema.dim_name(1) == second
-        && schema.measure_name(0) == measure
-        && schema.scale(0) == scale
+fn is_dim(schema: &Schema, dim: u8, name: &str) -> bool {
+    dim < schema.dims() && schema.dim_name(dim) == name
+}
+
+fn is_measure(schema: &Schema, measure: u8, name: &str, scale: u8) -> bool {
+    measure < schema.measures()
+        && schema.measure_name(measure) == name
+        && schema.scale(measure) == scale
+}
+
+// Whether a schema has one index, of this kind.
+fn has_index(schema: &Schema, kind: AggKind) -> bool {
+    schema.indexes() == [kind].as_slice()
 }
 
 fn has_limits(schema: &Schema, nodes: u32, rows: u32, values: u32) -> bool {
     schema.nodes() == nodes && schema.rows() == rows && schema.values() == values
+}
+
+fn has_names(schema: &Schema) -> bool {
+    schema.dims() == 2
+        && schema.measures() == 1
+        && schema.id_name() == "order"
+        && is_dim(schema, 0, "store")
+        && is_dim(schema, 1, "product")
+        && is_measure(schema, 0, "sale", 2)
 }
 
 fn is_read(alloc: Global) -> bool {
@@ -24,9 +38,8 @@ fn is_read(alloc: Global) -> bool {
     let Ok(schema) = read_schema(alloc, text) else {
         return false;
     };
-    let is_right = schema.id_name() == "order"
-        && has_names(&schema, "store", "product", "sale", 2)
-        && schema.indexes() == [AggKind::Sum(0)].as_slice()
+    let is_right = has_names(&schema)
+        && has_index(&schema, AggKind::Sum(0))
         && has_limits(&schema, 11, 12, 13)
         && schema.version() == 1;
     drop(schema);
@@ -66,7 +79,7 @@ fn are_scales_read(alloc: Global) -> bool {
     };
     let is_right = schema.version() == 2
         && schema.measures() == 4
-        && schema.indexes() == [AggKind::Mean(3)].as_slice()
+        && has_index(&schema, AggKind::Mean(3))
         && has_scales(&schema);
     drop(schema);
     is_right
