@@ -2,3 +2,4 @@ pub mod TextLists
 pub mod Decoded
 pub mod Recoded
 pub mod Boxes
+pub mod Starts
