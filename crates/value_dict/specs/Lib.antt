@@ -3,3 +3,4 @@ pub mod Decoded
 pub mod Recoded
 pub mod Boxes
 pub mod Hashing
+pub mod Starts

@@ -9,6 +9,7 @@ ghost use Rattle.value_dict.specs.Recoded.{HaveTexts, has_code, text_in};
 ghost use Rattle.value_dict.specs.TextLists.{list_at};
 ghost use Rattle.value_dict.specs.Decoded.{has_text};
 
+use crate::in_order::in_order;
 use crate::{CellBox, Dict, Memory};
 use cell_core::{Code, Field, Fields, Text, Texts};
 use std::alloc::Global;
@@ -18,18 +19,6 @@ fn is_within(text: &str, low: &str, high: &str) -> bool
     ensures { result ≡ is_between low.now high.now text.now }
 {
     low.cmp(text) != Ordering::Greater && text.cmp(high) != Ordering::Greater
-}
-
-// The codes in the order of their texts, each once.
-fn in_order(dict: &Dict, dim: u8, mut codes: Vec<Code>) -> Vec<Code>
-    ensures value { map (text_in dict.now.lists dim) result.items ≡ distinct text_cmp
-        (map (text_in dict.now.lists dim) codes.items) }
-    ensures within { HaveTexts dict.now.lists dim codes.items
-        → HaveTexts dict.now.lists dim result.items }
-{
-    codes.sort_unstable_by(|a, b| dict.rank_cmp(dim, *a, *b));
-    codes.dedup_by(|a, b| dict.rank_cmp(dim, *a, *b) == Ordering::Equal);
-    codes
 }
 
 // The codes of a dimension, in the order in which its texts were learnt.
@@ -123,7 +112,7 @@ impl Dict {
         ensures within { IfOk result (λ codes. HaveTexts self.now.lists dim codes.items) }
     {
         let codes = codes_between(self, alloc, dim, lo, hi)?;
-        Ok(in_order(self, dim, codes))
+        in_order(self, alloc, dim, codes)
     }
 
     // What a field asks for in a dimension.
@@ -136,12 +125,14 @@ impl Dict {
             Field::Any => Ok(None),
             Field::All => {
                 let codes = all_codes(self, alloc, dim)?;
-                Ok(Some(in_order(self, dim, codes)))
+                let sorted = in_order(self, alloc, dim, codes)?;
+                Ok(Some(sorted))
             }
             Field::One(text) => Ok(Some(known_code(self, alloc, dim, text)?)),
             Field::Among(texts) => {
                 let codes = known_codes(self, alloc, dim, texts)?;
-                Ok(Some(in_order(self, dim, codes)))
+                let sorted = in_order(self, alloc, dim, codes)?;
+                Ok(Some(sorted))
             }
             Field::Between(low, high) => {
                 let codes = self.between(alloc, dim, low.as_str(), high.as_str())?;

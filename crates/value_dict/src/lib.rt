@@ -9,6 +9,7 @@ ghost use Rattle.value_dict.specs.TextLists.{IsDictionary, cell_in, code_in, cut
 
 mod box_of_fields;
 mod boxes;
+mod in_order;
 mod law;
 mod order;
 mod sets;

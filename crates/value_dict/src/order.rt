@@ -12,7 +12,7 @@ use cell_core::{Cell, Code, Entry};
 use std::cmp::Ordering;
 
 // The text of a code, or no bytes if there is no such code.
-fn text_or_none(dict: &Dict, dim: u8, code: Code) -> &str
+pub(crate) fn text_or_none(dict: &Dict, dim: u8, code: Code) -> &str
     ensures { result.now ≡ text_in dict.now.lists dim code }
 {
     if dim >= dict.dims() || code >= dict.len(dim) {

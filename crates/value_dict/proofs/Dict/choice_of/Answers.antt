@@ -6,20 +6,20 @@ use Rattle.value_dict.specs.Boxes.{AreFieldCodes, is_between}
 use Rattle.value_dict.proofs.AskedValues.{asked-all, asked-among, asked-between}
 use Rattle.value_dict.proofs.Dict.choice_of.Goals as goal
 
-pub returns-in_ok-codes-in-All : goal.returns-in_ok-codes-in-All
-returns-in_ok-codes-in-All c =
+pub returns-in_ok-sorted-in-All : goal.returns-in_ok-sorted-in-All
+returns-in_ok-sorted-in-All c =
     let lists = c.args.self.now.lists in
-    subst (λ (field : Field). AreFieldCodes lists c.args.dim field (Some c.in_order.result.items)) (sym c.in-All.is)
-    (asked-all lists c.args.dim c.in_ok-codes-in-All.codes.items c.in_order.result.items c.in_order.ensures.value
-    (c.in_order.ensures.within c.in_ok-codes-in-All.ensures.within) c.in_ok-codes-in-All.ensures.value)
+    subst (λ (field : Field). AreFieldCodes lists c.args.dim field (Some c.in_ok-sorted-in-All.sorted.items)) (sym c.in-All.is)
+    (asked-all lists c.args.dim c.in_ok-codes-in-All.codes.items c.in_ok-sorted-in-All.sorted.items c.in_ok-sorted-in-All.ensures.value
+    (c.in_ok-sorted-in-All.ensures.within c.in_ok-codes-in-All.ensures.within) c.in_ok-codes-in-All.ensures.value)
 
-pub returns-in_ok-codes-in-Among : goal.returns-in_ok-codes-in-Among
-returns-in_ok-codes-in-Among c =
+pub returns-in_ok-sorted-in-Among : goal.returns-in_ok-sorted-in-Among
+returns-in_ok-sorted-in-Among c =
     let lists = c.args.self.now.lists in
-    subst (λ (field : Field). AreFieldCodes lists c.args.dim field (Some c.in_order-in-Among.result.items))
+    subst (λ (field : Field). AreFieldCodes lists c.args.dim field (Some c.in_ok-sorted-in-Among.sorted.items))
     (sym c.in-Among.is)
-    (asked-among lists c.args.dim c.in_ok-codes-in-Among.codes.items c.in_order-in-Among.result.items
-    c.in_order-in-Among.ensures.value (c.in_order-in-Among.ensures.within c.in_ok-codes-in-Among.ensures.within)
+    (asked-among lists c.args.dim c.in_ok-codes-in-Among.codes.items c.in_ok-sorted-in-Among.sorted.items
+    c.in_ok-sorted-in-Among.ensures.value (c.in_ok-sorted-in-Among.ensures.within c.in_ok-codes-in-Among.ensures.within)
     c.in-Among.texts c.in_ok-codes-in-Among.ensures.value)
 
 pub returns-in_ok-codes-in-Between : goal.returns-in_ok-codes-in-Between
