@@ -62,9 +62,12 @@ fn nodes_left(walk: &mut Walk<'_>) -> [u32; 6] {
     nodes
 }
 
+// The nodes with at least a value and with at most, each with the entries read.
+type Found = [([u32; 6], u64); 2];
+
 // What qualifies with at least a value, and with at most the value, each with the entries read.
 // None where the value is no fraction, or the index doesn't have the kind.
-fn asked(index: &Index, kind: AggKind, value: &[u8]) -> Option<[([u32; 6], u64); 2]> {
+fn asked(index: &Index, kind: AggKind, value: &[u8]) -> Option<Found> {
     let value = read_fraction(value)?;
     if !index.has(kind) {
         return None;
@@ -76,10 +79,14 @@ fn asked(index: &Index, kind: AggKind, value: &[u8]) -> Option<[([u32; 6], u64);
     Some([(least, falling.taken()), (most, rising.taken())])
 }
 
+fn answers(index: &Index, kind: AggKind, value: &[u8], want: &Found) -> bool {
+    asked(index, kind, value) == Some(*want)
+}
+
 static TOLD: [(u32, i64); 5] = [(4, 150), (9, -200), (2, 150), (7, 0), (5, -33)];
 
 // The value, and the nodes with at least the value and with at most, with the entries read.
-static WALKS: [(&[u8], [([u32; 6], u64); 2]); 6] = [
+static WALKS: [(&[u8], Found); 6] = [
     (b"3/2", [([4, 2, 0, 0, 0, 0], 3), ([9, 5, 7, 2, 4, 0], 5)]),
     (b"-1/3", [([4, 2, 7, 5, 0, 0], 5), ([9, 0, 0, 0, 0, 0], 2)]),
     (
@@ -97,26 +104,26 @@ static WALKS: [(&[u8], [([u32; 6], u64); 2]); 6] = [
 // Whether all walks over an index of sums give what they should.
 fn are_walks_right(index: &Index) -> bool {
     'walks: for (value, expected) in &WALKS {
-        if asked(index, AggKind::Sum(0), value) != Some(*expected) {
+        if !answers(index, AggKind::Sum(0), value, expected) {
             return false;
         }
     }
     true
 }
 
-fn are_classes_walked(alloc: Global) -> Result<bool, Memory> {
-    let mut index = Index::new(alloc, &[AggKind::Sum(0)], &[2])?;
-    let changed = change(alloc, &mut index, &TOLD, &[]);
-    let is_right = are_walks_right(&index);
+fn are_classes_walked(alloc: Global) -> bool {
+    let Ok(mut index) = Index::new(alloc, &[AggKind::Sum(0)], &[2]) else {
+        return false;
+    };
+    let are_walked = change(alloc, &mut index, &TOLD, &[]).is_ok() && are_walks_right(&index);
     drop(index);
-    changed?;
-    Ok(is_right)
+    are_walked
 }
 
 const KINDS: [AggKind; 3] = [AggKind::Sum(0), AggKind::Count, AggKind::Mean(0)];
 
 // What is asked of a filled index of three kinds, and what comes.
-static FILLED: [(&[u8], [([u32; 6], u64); 2]); 3] = [
+static FILLED: [(&[u8], Found); 3] = [
     (b"-0.33", [([4, 2, 7, 5, 0, 0], 5), ([9, 5, 0, 0, 0, 0], 3)]),
     (b"1", [([9, 7, 5, 4, 2, 0], 5), ([2, 4, 5, 7, 9, 0], 5)]),
     (
@@ -128,82 +135,74 @@ static FILLED: [(&[u8], [([u32; 6], u64); 2]); 3] = [
 fn is_filled_right(index: &Index) -> bool {
     'kinds: for k in 0..3 {
         let (value, expected) = FILLED[k];
-        if asked(index, KINDS[k], value) != Some(expected) {
+        if !answers(index, KINDS[k], value, &expected) {
             return false;
         }
     }
     true
 }
 
-fn is_filled(alloc: Global) -> Result<bool, Memory> {
-    let index = filled(alloc, &KINDS, &TOLD)?;
+fn is_filled(alloc: Global) -> bool {
+    let Ok(index) = filled(alloc, &KINDS, &TOLD) else {
+        return false;
+    };
     let is_right = is_filled_right(&index);
     drop(index);
-    Ok(is_right)
+    is_right
 }
 
 const LEAST: AggKind = AggKind::Least(0);
 
 // Three classes come; one of them goes and comes, two go and two come; all go.
-fn come_and_go(alloc: Global, index: &mut Index) -> Result<bool, Memory>
+fn come_and_go(alloc: Global, index: &mut Index) -> bool
     requires { All (λ r. IsThere 1 r.kind) index.old }
 {
-    change(alloc, index, &[(1, 5), (2, 5), (3, -7)], &[])?;
-    change(
-        alloc,
-        index,
-        &[(1, 5), (3, 5), (4, 6)],
-        &[(1, 5), (2, 5), (3, -7)],
-    )?;
-    let is_changed = asked(index, LEAST, b"5")
-        == Some([([4, 3, 1, 0, 0, 0], 3), ([1, 3, 0, 0, 0, 0], 3)]);
-    change(alloc, index, &[], &[(1, 5), (3, 5), (4, 6)])?;
-    Ok(is_changed && asked(index, LEAST, b"5") == Some([([0; 6], 0), ([0; 6], 0)]))
+    let came = [(1, 5), (2, 5), (3, -7)];
+    let there = [(1, 5), (3, 5), (4, 6)];
+    if change(alloc, index, &came, &[]).is_err() || change(alloc, index, &there, &came).is_err() {
+        return false;
+    }
+    let are_there = answers(index, LEAST, b"5", &THREE);
+    change(alloc, index, &[], &there).is_ok() && are_there && answers(index, LEAST, b"5", &NONE)
 }
 
-fn have_come_and_gone(alloc: Global) -> Result<bool, Memory> {
-    let mut index = Index::new(alloc, &[LEAST], &[0])?;
+static THREE: Found = [([4, 3, 1, 0, 0, 0], 3), ([1, 3, 0, 0, 0, 0], 3)];
+
+static NONE: Found = [([0; 6], 0), ([0; 6], 0)];
+
+fn have_come_and_gone(alloc: Global) -> bool {
+    let Ok(mut index) = Index::new(alloc, &[LEAST], &[0]) else {
+        return false;
+    };
     let is_right = come_and_go(alloc, &mut index);
     drop(index);
     is_right
 }
 
-// What is asked of the one class of two rows, with the amounts -3 and 8.
-fn asked_of_two_rows(
-    alloc: Global,
-    kind: AggKind,
-    value: &[u8],
-) -> Result<Option<[([u32; 6], u64); 2]>, Memory>
+static BOTH: Found = [([3, 0, 0, 0, 0, 0], 1), ([3, 0, 0, 0, 0, 0], 1)];
+
+// Whether the one class of two rows, with the amounts -3 and 8, qualifies from both sides.
+fn is_found(alloc: Global, kind: AggKind, value: &[u8]) -> bool
     requires { IsThere 1 kind }
 {
     let mut agg = Agg::one(&[-3]);
     agg.add_row(&[8]);
     let classes = [(NodeNo(3), agg)];
-    let mut index = Index::new(alloc, &[kind], &[1])?;
-    let changed = index.change(&classes, &[]);
-    let found = asked(&index, kind, value);
+    let Ok(mut index) = Index::new(alloc, &[kind], &[1]) else {
+        return false;
+    };
+    let is_found = index.change(&classes, &[]).is_ok() && answers(&index, kind, value, &BOTH);
     drop(index);
-    changed?;
-    Ok(found)
-}
-
-// Whether the class qualifies from both sides.
-fn is_found(alloc: Global, kind: AggKind, value: &[u8]) -> Result<bool, Memory>
-    requires { IsThere 1 kind }
-{
-    let found = asked_of_two_rows(alloc, kind, value)?;
-    Ok(found == Some([([3, 0, 0, 0, 0, 0], 1), ([3, 0, 0, 0, 0, 0], 1)]))
+    is_found
 }
 
 // Whether each kind has its value.
-fn have_values(alloc: Global) -> Result<bool, Memory> {
-    Ok(
-        is_found(alloc, AggKind::Count, b"2")?
-            && is_found(alloc, AggKind::Sum(0), b"0.5")?
-            && is_found(alloc, AggKind::Least(0), b"-3/10")?
-            && is_found(alloc, AggKind::Greatest(0), b"8/10")?
-            && is_found(alloc, AggKind::Mean(0), b"0.25")?,
-    )
+fn have_values(alloc: Global) -> bool {
+    is_found(alloc, AggKind::Count, b"2")
+        && is_found(alloc, AggKind::Sum(0), b"0.5")
+        && is_found(alloc, AggKind::Least(0), b"-3/10")
+        && is_found(alloc, AggKind::Greatest(0), b"8/10")
+        && is_found(alloc, AggKind::Mean(0), b"0.25")
 }
 
 fn are_kinds_named(index: &Index) -> bool {
@@ -213,21 +212,21 @@ fn are_kinds_named(index: &Index) -> bool {
         && !index.has(AggKind::Sum(0))
 }
 
-fn has_named_kinds(alloc: Global) -> Result<bool, Memory> {
-    let index = Index::new(alloc, &[AggKind::Mean(0), AggKind::Count], &[0])?;
+fn has_named_kinds(alloc: Global) -> bool {
+    let Ok(index) = Index::new(alloc, &[AggKind::Mean(0), AggKind::Count], &[0]) else {
+        return false;
+    };
     let is_right = are_kinds_named(&index);
     drop(index);
-    Ok(is_right)
+    is_right
 }
 
 /// Whether classes are walked from either end, come and go, and only the kinds that were named are
 /// there.
-pub(crate) fn are_right(alloc: Global) -> Result<bool, Memory> {
-    Ok(
-        are_classes_walked(alloc)?
-            && is_filled(alloc)?
-            && have_come_and_gone(alloc)?
-            && have_values(alloc)?
-            && has_named_kinds(alloc)?,
-    )
+pub(crate) fn are_right(alloc: Global) -> bool {
+    are_classes_walked(alloc)
+        && is_filled(alloc)
+        && have_come_and_gone(alloc)
+        && have_values(alloc)
+        && has_named_kinds(alloc)
 }

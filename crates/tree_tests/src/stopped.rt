@@ -206,18 +206,20 @@ fn found_again<L: Ledger>(alloc: Global, steps: &mut Steps<L>) -> Option<[[Optio
     found
 }
 
-/// Whether cells keep their numbers where a batch is taken back.
-pub(crate) fn are_right<L: Ledger>(alloc: Global, steps: &mut Steps<L>) -> bool {
-    let Some(numbers) = found_again(alloc, steps) else {
-        return false;
-    };
-    let first = numbers[0];
-    // No row has the value 1 in both dimensions. The closure of the value 1 alone has 0 in the
-    // other dimension, and the reverse.
+// No row has the value 1 in both dimensions. The closure of the value 1 alone has 0 in the other
+// dimension, and the reverse.
+fn are_closures(first: &[Option<NodeNo>; 9]) -> bool {
     first[4].is_none()
         && first[7].is_some()
         && first[7] == first[1]
         && first[5] == first[3]
         && first[8] != first[2]
-        && numbers == [first; 4]
+}
+
+/// Whether cells keep their numbers where a batch is taken back.
+pub(crate) fn are_right<L: Ledger>(alloc: Global, steps: &mut Steps<L>) -> bool {
+    match found_again(alloc, steps) {
+        Some(numbers) => are_closures(&numbers[0]) && numbers == [numbers[0]; 4],
+        None => false,
+    }
 }

@@ -48,20 +48,46 @@ fn edit<L: Ledger>(arena: &mut QcArena, node: NodeNo, what: Change, steps: &mut 
     }
 }
 
-// One of seven batches. The numbers of the root and of the node under it are 0 and 1, also where
-// both were killed and are added again.
-fn batch<L: Ledger>(arena: &mut QcArena, number: u8, steps: &mut Steps<L>)
+// A batch.
+#[derive(Clone, Copy)]
+enum Batch {
+    Plants,
+    /// What it does to the node of a number.
+    Edits(u32, Change),
+    Nothing,
+}
+
+// The numbers of the root and of the node under it are 0 and 1, also where both were killed and are
+// added again.
+static BATCHES: [Batch; 7] = [
+    Batch::Plants,
+    Batch::Edits(1, Change::Killed),
+    Batch::Edits(0, Change::Killed),
+    Batch::Plants,
+    Batch::Edits(0, Change::Dropped),
+    Batch::Edits(0, Change::Touched),
+    Batch::Nothing,
+];
+
+fn make<L: Ledger>(arena: &mut QcArena, batch: Batch, steps: &mut Steps<L>)
+    requires { is_open arena.old ≡ true }
+    ensures { is_open arena.new ≡ true }
+{
+    match batch {
+        Batch::Plants => plant(arena, steps),
+        Batch::Edits(node, what) => edit(arena, NodeNo(node), what, steps),
+        Batch::Nothing => {}
+    }
+}
+
+// One of the batches.
+fn take_batch<L: Ledger>(arena: &mut QcArena, number: u8, steps: &mut Steps<L>)
     requires { is_open arena.old ≡ false }
     ensures { is_open arena.new ≡ false }
 {
     arena.begin();
-    match number {
-        0 | 3 => plant(arena, steps),
-        1 => edit(arena, NodeNo(1), Change::Killed, steps),
-        2 => edit(arena, NodeNo(0), Change::Killed, steps),
-        4 => edit(arena, NodeNo(0), Change::Dropped, steps),
-        5 => edit(arena, NodeNo(0), Change::Touched, steps),
-        _ => {}
+    if let Some(batch) = BATCHES.get(usize::from(number)) {
+        make(arena, *batch, steps);
     }
     arena.commit();
 }
@@ -72,9 +98,9 @@ fn images_of<L: Ledger>(alloc: Global, last: u8, steps: &mut Steps<L>) -> Option
         return None;
     };
     'batches: for number in 0..last {
-        batch(&mut arena, number, steps);
+        take_batch(&mut arena, number, steps);
     }
-    batch(&mut arena, last, steps);
+    take_batch(&mut arena, last, steps);
     let images = arena.last_images();
     drop(arena);
     Some(images)
@@ -111,42 +137,42 @@ static CASES: [Case; 10] = [
     (3, 6, 2, GONE, GONE),
 ];
 
-// Whether images say so much of the two nodes, and nothing of a number without a node.
-fn say(images: Images, count: usize, of_root: Told, of_child: Told) -> bool {
-    let root = told(&images, NodeNo(0));
-    let child = told(&images, NodeNo(1));
-    let none = told(&images, NodeNo(9));
-    let all = images.count();
-    drop(images);
-    all == count && root == of_root && child == of_child && none.is_none()
+fn tell(images: &Images, node: u32, want: Told) -> bool {
+    told(images, NodeNo(node)) == want
 }
 
-// The images put over later ones, if memory is there.
-fn put_over(images: Images, later: Images) -> Option<Images> {
-    let mut images = images;
+// Whether images say what a case does, and nothing of a number without a node.
+fn say(images: &Images, case: &Case) -> bool {
+    let (_, _, count, of_root, of_child) = *case;
+    images.count() == count
+        && tell(images, 0, of_root)
+        && tell(images, 1, of_child)
+        && tell(images, 9, SAME)
+}
+
+// Puts images over later ones, if memory is there.
+fn is_put_over(images: &mut Images, later: Images) -> bool {
     match images.merge_later(later) {
-        Ok(()) => Some(images),
+        Ok(()) => true,
         Err(later) => {
             drop(later);
-            drop(images);
-            None
+            false
         }
     }
 }
 
 fn holds<L: Ledger>(alloc: Global, case: &Case, steps: &mut Steps<L>) -> bool {
-    let (older, later, count, of_root, of_child) = *case;
-    let Some(images) = images_of(alloc, older, steps) else {
+    let (older, later, _, _, _) = *case;
+    let Some(mut images) = images_of(alloc, older, steps) else {
         return false;
     };
-    let Some(others) = images_of(alloc, later, steps) else {
-        drop(images);
-        return false;
-    };
-    match put_over(images, others) {
-        Some(images) => say(images, count, of_root, of_child),
+    let is_put_over = match images_of(alloc, later, steps) {
+        Some(later) => is_put_over(&mut images, later),
         None => false,
-    }
+    };
+    let holds = is_put_over && say(&images, case);
+    drop(images);
+    holds
 }
 
 /// Whether images are put together as the cases say.
