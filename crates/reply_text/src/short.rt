@@ -55,7 +55,7 @@ impl Reply {
 }
 
 // The word and the line's number, with room for so many bytes after them.
-fn begun(word: &str, line: u32) -> ShortReply
+pub(crate) fn begun(word: &str, line: u32) -> ShortReply
     requires { length word.now ≤ 8 }
     ensures text { result ≡ word.now ++ 44 ∷ decimal line }
     ensures short { length result ≤ 19 }

@@ -1,6 +1,6 @@
 // Codes in the order of their texts. Each is sorted with the first bytes of its text, so that few
 // comparisons read a text.
-ghost use Rattle.std.specs.Prelude.{All, IfOk, length, map, slice_index_or, ◌∷◌, ◌<◌, ◌≡◌};
+ghost use Rattle.std.specs.Prelude.{All, IfOk, length, map, slice_index_or, vec_capacity, ◌∷◌, ◌≡◌, ◌≤◌};
 ghost use Rattle.cube_defs.specs.Text.{text_cmp};
 ghost use Rattle.cube_defs.specs.Tree.{distinct};
 ghost use Rattle.value_dict.specs.Recoded.{HaveTexts, text_in};
@@ -74,6 +74,7 @@ fn sorted(dict: &Dict, dim: u8, mut keyed: Vec<Keyed>) -> Vec<Keyed>
     requires { All (λ k. HasStart (text_in dict.now.lists dim k.code) k.start) keyed.items }
     ensures value { map (λ k. text_in dict.now.lists dim k.code) result.items ≡ distinct text_cmp
         (map (λ k. text_in dict.now.lists dim k.code) keyed.items) }
+    ensures few { length result.items ≤ length keyed.items }
     ensures within { HaveTexts dict.now.lists dim (map (λ k. k.code) keyed.items)
         → HaveTexts dict.now.lists dim (map (λ k. k.code) result.items) }
 {
@@ -82,15 +83,16 @@ fn sorted(dict: &Dict, dim: u8, mut keyed: Vec<Keyed>) -> Vec<Keyed>
     keyed
 }
 
-// The codes without the starts.
-fn codes_of(alloc: Global, keyed: &[Keyed]) -> Result<Vec<Code>, Memory>
-    ensures { IfOk result (λ codes. codes.items ≡ map (λ k. k.code) keyed.now) }
+// Replaces the codes of a list, which has room for the new ones.
+fn replaced(mut codes: Vec<Code>, keyed: &[Keyed]) -> Vec<Code>
+    requires { length keyed.now ≤ vec_capacity codes }
+    ensures { result.items ≡ map (λ k. k.code) keyed.now }
 {
-    let mut codes = Vec::with_capacity(alloc, keyed.len())?;
+    codes.clear();
     'codes: for k in 0..keyed.len() {
         codes.push_reserved(keyed[k].code);
     }
-    Ok(codes)
+    codes
 }
 
 // The codes in the order of their texts, each once.
@@ -106,5 +108,5 @@ pub(crate) fn in_order(
         → IfOk result (λ sorted. HaveTexts dict.now.lists dim sorted.items) }
 {
     let keyed = keyed_codes(dict, alloc, dim, &codes)?;
-    codes_of(alloc, &sorted(dict, dim, keyed))
+    Ok(replaced(codes, &sorted(dict, dim, keyed)))
 }

@@ -16,7 +16,7 @@ hits-preserved c =
     let hit = c.hit-item.result in
     let text = hit_text c.args.line c.args.schema.now.measures in
     let at = slice_get-get_or hits k hit c.hits-test.true ∙ ap (λ (h : Hit). Some h) (sym c.hit-item.is) in
-    c.in_ok-push_hit.ensures
+    c.in_ok-push_hit.ensures c.args.line (c.as_bytes.ensures ∙ c.begun-start.ensures.text)
     ∙ ap (λ (z : List ℕ). z ++ text (decoded_hit lists (hit_in hit))) c.hits.invariant
     ∙ append_assoc c.args.out.now.items (flat_map text (decoded_hits lists (take k hits)))
     (text (decoded_hit lists (hit_in hit)))

@@ -1,5 +1,5 @@
 use Rattle.std.proofs.Common.{◌≡◌, ◌≤◌, length, map, take, vec_capacity, vec_len}
-use Rattle.value_dict.proofs.in_order.codes_of.Given as goal
+use Rattle.value_dict.proofs.in_order.replaced.Given as goal
 
 abbrev pub invariant-codes : goal.invariant-codes
 invariant-codes l = record {
