@@ -137,3 +137,10 @@ pub entry_at : (c : Cell ℕ) (i : ℕ) → i < length c → slice_get c i ≡ S
 entry_at [] i l = absurd (omega arith)
 entry_at (e ∷ c) zero l = refl
 entry_at (e ∷ c) (suc i) l = entry_at c i (omega arith)
+
+-- an entry after a dimension is what it was before the cell got a value there
+pub entry_after : (c : Cell ℕ) (i v k : ℕ) → i < k → k < length c → slice_get (with_value c i v) k ≡ Some (get_or c k None)
+entry_after [] i v k l w = absurd (omega arith)
+entry_after (e ∷ c) i v zero l w = absurd (omega arith)
+entry_after (e ∷ c) zero v (suc k) l w = entry_at c k (omega arith)
+entry_after (e ∷ c) (suc i) v (suc k) l w = entry_after c i v k (omega arith) (omega arith)

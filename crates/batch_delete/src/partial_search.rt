@@ -2,7 +2,7 @@
 ghost use Rattle.std.specs.FinMap as map;
 ghost use Rattle.std.specs.Option.{option_map};
 ghost use Rattle.std.specs.Prelude.{IfSome, IsSome, Some, length, ◌*◌, ◌+◌, ◌≡◌, ◌≤◌};
-ghost use Rattle.cube_defs.specs.Cell.{cell_prefix};
+ghost use Rattle.cube_defs.specs.Cell.{cell_prefix, with_value};
 ghost use Rattle.cube_defs.specs.Tree.{cell_at};
 ghost use Rattle.cube_laws.specs.Parts.{IsLastAny};
 ghost use Rattle.qc_arena.specs.RecordReaders.{number};
@@ -11,28 +11,29 @@ ghost use Rattle.batch_delete.specs.DeletedRow.{IsClassNode, IsSearch};
 ghost use Rattle.batch_delete.specs.Rests.{Deletion, source_before};
 
 use crate::generalizing::NodeCell;
-use cell_core::{Cell, NodeNo, Steps};
+use cell_core::{Cell, Code, NodeNo, Steps};
 use qc_arena::{Nodes, QcArena};
 use std::sync::ledger::Ledger;
 use tree_search::step;
 
-/// The node of the cell's closure. The search for the cell goes on from a node, after a dimension.
+/// The node of the closure of a cell with the value of a label. The search goes on from the label's
+/// target. The cell itself has Any in the label's dimension, and isn't copied.
 pub(crate) fn find_from<L: Ledger>(
     arena: &QcArena,
     cell: &Cell,
-    dim: u8,
-    node: NodeNo,
+    label: (u8, Code, NodeNo),
     steps: &mut Steps<L>,
 ) -> Option<NodeNo>
     ghost d: { Deletion }
-    requires { IsSearch d arena.now cell.now dim node.0 }
+    requires { IsSearch d arena.now (with_value cell.now label.0 label.1) label.0 label.2.0 }
     ensures found { IsNumberOfCell arena.now.now (option_map number result)
-        (closure_in (source_before d) cell.now) }
+        (closure_in (source_before d) (with_value cell.now label.0 label.1)) }
     ensures there { IfSome result (λ node. IsSome (map.get arena.now.now node.0)) }
     ensures steps { steps.new ≤ steps.old + 2 * length cell.now }
 {
+    let (dim, _, target) = label;
     let dims = cell.dims();
-    let mut node = node;
+    let mut node = target;
     'dims: for next in dim + 1..dims {
         node = step(arena, node, next, cell.get(next), steps)?;
     }

@@ -10,7 +10,7 @@ ghost use Rattle.cube_laws.specs.Total.{join_aggs, join_cells};
 ghost use Rattle.tree_search.specs.Found.{closure_in};
 ghost use Rattle.batch_delete.specs.declared.generalizing.NodeCell.{NodeCell};
 ghost use Rattle.batch_delete.specs.Generalizing.{AreGeneralizing};
-ghost use Rattle.batch_delete.specs.DeletedRow.{ArePartOf, ArePartsPlanned, HasFound, HasOwnPart, IsKnown, IsLastPartPlanned, IsPartLabel, IsPrefixNode};
+ghost use Rattle.batch_delete.specs.DeletedRow.{ArePartOf, ArePartsPlanned, CanSettle, HasFound, HasOwnPart, IsKnown, IsLastPartPlanned, IsPartLabel, IsPrefixNode};
 ghost use Rattle.batch_delete.specs.Plan.{planned_rest_in, prefix_labels, is_value, last_any_of};
 ghost use Rattle.batch_delete.specs.Rests.{CanJoin, Deletion, IsRest, IsTotal, agg_of_rest, other_values, rows_after, rows_before, shared_of, source_before};
 
@@ -26,6 +26,7 @@ use cell_core::{Cell, Code, Entry, NodeNo, Steps, meet_into};
 use cube_defs::MAX_ROWS;
 use indexmap::IndexMap;
 use qc_arena::{Nodes, QcArena};
+use std::mem::replace;
 use std::sync::ledger::Ledger;
 use tree_search::upper_into;
 
@@ -110,53 +111,58 @@ fn own_part<L: Ledger>(
     let Some(target) = arena.edge(front, dim, code, steps) else {
         return None;
     };
-    let mut more = class.cell.copy();
-    more.set(dim, Entry::Is(code));
-    let Some(node) = find_from(arena, &more, dim, target, steps) else {
+    let Some(node) = find_from(arena, &class.cell, (dim, code, target), steps) else {
         return None;
     };
     planned_rest(plan, node)
 }
 
-// The rest joined with the rows of a label. The label's value isn't the tuple's.
+// Joins the rows of a label to the rest. The label's value isn't the tuple's. Gives whether the
+// label has any rows of the class.
 fn with_part<L: Ledger>(
     arena: &QcArena,
     cell: &Cell,
     label: (u8, Code, NodeNo),
-    rest: Option<Rest>,
+    rest: &mut Option<Rest>,
     steps: &mut Steps<L>,
-) -> Option<Rest>
+) -> bool
     ghost d: { Deletion }
     requires label { IsPartLabel d arena.now cell.now label.0 label.1 label.2.0 }
     requires few { (part : _)
         → IsRest d.measures (rows_before d) (with_value cell.now label.0 label.1) (Some part) →
-        IfSome rest (λ some. some.agg.count + part.agg.count ≤ MAX_ROWS) }
-    requires rest { ArePartOf d cell.now rest }
-    ensures rest { ArePartOf d cell.now result }
+        IfSome rest.old (λ some. some.agg.count + part.agg.count ≤ MAX_ROWS) }
+    requires rest { ArePartOf d cell.now rest.old }
+    ensures rest { ArePartOf d cell.now rest.new }
     ensures total { (v : ℕ) (w : _) (vs : List ℕ) → eq_by_cmp nat_cmp label.1 v ≡ false
-        → IsTotal d cell.now label.0 v w vs rest →
-        IsTotal d cell.now label.0 v w (vs ++ label.1 ∷ []) result }
+        → IsTotal d cell.now label.0 v w vs rest.old →
+        IsTotal d cell.now label.0 v w (vs ++ label.1 ∷ []) rest.new }
+    ensures same { result ≡ false → rest.new ≡ rest.old }
     ensures steps { steps.new ≤ steps.old + (4 * length cell.now + 5) }
 {
-    let (dim, code, target) = label;
+    let Some(node) = find_from(arena, cell, label, steps) else {
+        return false;
+    };
+    let (dim, code, _) = label;
     let mut more = cell.copy();
     more.set(dim, Entry::Is(code));
-    let Some(node) = find_from(arena, &more, dim, target, steps) else {
-        return rest;
-    };
     match rest_at(arena, &more, node, steps) {
-        None => rest,
-        Some(part) => Some(joined(rest, part)),
+        None => false,
+        Some(part) => {
+            let had = replace(rest, None);
+            *rest = Some(joined(had, part));
+            true
+        }
     }
 }
 
-// The rest joined with the rows of a label, unless the label has the tuple's value.
+// Joins the rows of a label to the rest, unless the label has the tuple's value. Gives whether the
+// rest has more rows.
 fn with_label<L: Ledger>(
     class: &Class<'_>,
     label: (u8, Code, NodeNo),
-    rest: Option<Rest>,
+    rest: &mut Option<Rest>,
     steps: &mut Steps<L>,
-) -> Option<Rest>
+) -> bool
     ghost d: { Deletion }
     requires class { IsKnown d class.now }
     requires label { IsPartLabel d class.now.row.now.arena.now class.now.cell label.0 label.1
@@ -164,19 +170,20 @@ fn with_label<L: Ledger>(
     requires few { is_value (slice_index_or class.now.row.now.tuple.now label.0 None) label.1
         ≡ false → (part : _) →
         IsRest d.measures (rows_before d) (with_value class.now.cell label.0 label.1) (Some part)
-        → IfSome rest (λ some. some.agg.count + part.agg.count ≤ MAX_ROWS) }
-    requires rest { ArePartOf d class.now.cell rest }
-    ensures rest { ArePartOf d class.now.cell result }
+        → IfSome rest.old (λ some. some.agg.count + part.agg.count ≤ MAX_ROWS) }
+    requires rest { ArePartOf d class.now.cell rest.old }
+    ensures rest { ArePartOf d class.now.cell rest.new }
     ensures total { (v : ℕ) (w : _) (vs : List ℕ)
         → slice_index_or class.now.row.now.tuple.now label.0 None ≡ Some v
-        → IsTotal d class.now.cell label.0 v w vs rest →
+        → IsTotal d class.now.cell label.0 v w vs rest.old →
         IsTotal d class.now.cell label.0 v w
         (vs ++ other_values label.0 v (record {
           dim = label.0;
           value = label.1;
           target
               = label.2.0;
-        } ∷ [])) result }
+        } ∷ [])) rest.new }
+    ensures same { result ≡ false → rest.new ≡ rest.old }
     ensures steps { (v : ℕ) → slice_index_or class.now.row.now.tuple.now label.0 None ≡ Some v →
         steps.new ≤ steps.old + (4 * length class.now.cell + 5) * length
         (other_values label.0 v (record {
@@ -187,9 +194,19 @@ fn with_label<L: Ledger>(
         } ∷ [])) }
 {
     if has(class.row.tuple, label.0, label.1) {
-        return rest;
+        return false;
     }
     with_part(class.row.arena, &class.cell, label, rest, steps)
+}
+
+// The rest of a class, if some of its rows settle it. The same rows aren't asked twice.
+fn settled_by_more(class: &Class<'_>, some: &Option<Rest>, are_more: bool) -> Option<Rest>
+    ghost d: { Deletion }
+    requires { CanSettle d class.now some.now }
+    ensures rest { IfSome result
+        (λ rest. IsRest d.measures (rows_after d) class.now.cell (Some rest)) }
+{
+    if are_more { settled(class, some) } else { None }
 }
 
 // The rest of a class. It begins with the rows that have the tuple's value in the dimension. Then
@@ -211,6 +228,7 @@ fn with_labels<L: Ledger>(
         (record_at class.now.row.now.arena.now.now front.0).edges) }
 {
     let mut all = rest;
+    let mut are_more = true;
     let arena = class.row.arena;
     let first = first_label(arena, front, dim, steps);
     'labels: for k in first..arena.edge_count(front, steps) {
@@ -218,11 +236,11 @@ fn with_labels<L: Ledger>(
         if label.0 != dim {
             return all;
         }
-        match settled(class, &all) {
+        match settled_by_more(class, &all, are_more) {
             Some(done) => return Some(done),
             None => {}
         }
-        all = with_label(class, label, all, steps);
+        are_more = with_label(class, label, &mut all, steps);
     }
     all
 }

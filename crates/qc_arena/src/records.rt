@@ -31,22 +31,22 @@ const NO_CODE: u32 = u32::MAX;
 /// The record of a node. Its cell isn't stored: it follows from the labels on the way down from the
 /// root. The record has the last label and the parent. For a class it has COUNT and the number of
 /// measures; COUNT is 0 in other nodes. A killed node keeps its record under a mark. Up to two
-/// edges lie in the record itself, and more edges lie in a list. A search reads the fields from the
-/// edges to the forced label, so these come first.
+/// edges lie in the record itself, and more edges lie in a list. A search doesn't read the last two
+/// fields.
 #[derive(Drop)]
 pub(crate) struct NodeRecord {
     trail: LabelPath<u8, u32>,
     noted: LabelPath<u32, Agg>,
-    edges: Edges,
     forced_code: u32,
+    forced_child: u32,
+    count: u32,
     dim: u8,
     forced_dim: u8,
     measures: u8,
     is_killed: bool,
-    forced_child: u32,
-    code: Code,
+    edges: Edges,
     parent: u32,
-    count: u32,
+    code: Code,
 }
 
 impl Model for NodeRecord {

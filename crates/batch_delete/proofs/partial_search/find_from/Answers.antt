@@ -1,19 +1,25 @@
-use Rattle.std.proofs.Common.{◌≡◌, ◌∙◌, ◌+◌, suc, ap, arith, nat_cmp, subst, sym, Some}
+use Rattle.std.proofs.Common.{◌≡◌, ◌∙◌, ◌+◌, suc, ap, arith, nat_cmp, length-set, subst, sym, Some}
 use Rattle.std.specs.Ordering.{eq_by_cmp}
 use Rattle.cell_core.specs.Entry.{value_in}
+use Rattle.cube_defs.specs.Cell.{with_value}
 use Rattle.tree_laws.specs.Walk.{closure_prefix}
 use Rattle.tree_search.specs.Found.{IsNumberOfCell}
 use Rattle.batch_delete.specs.Rests.{rows_before, source_before}
-use Rattle.batch_delete.proofs.PartialSearches.{ends, entry_at, goes_on, stops}
+use Rattle.batch_delete.proofs.PartialSearches.{ends, entry_after, goes_on, stops}
 use Rattle.batch_delete.proofs.partial_search.find_from.Goals as goal
 
 pub returns-in_err-node-clause-found : goal.returns-in_err-node-clause-found
 returns-in_err-node-clause-found g c =
     let a = c.args.arena.now in
-    let cell = c.args.cell.now in
+    let i = c.args.label.0 in
+    let v = c.args.label.1 in
+    let cell = with_value c.args.cell.now i v in
     let long = c.requires.1.long in
+    let same = length-set c.args.cell.now i (Some v) in
     let many = c.dims-dims.ensures.value in
-    let at = entry_at cell c.dims.next (omega arith) ∙ ap (λ x. Some x) (sym c.get.ensures.value) in
+    let from = c.dims.invariant.from in
+    let at = entry_after c.args.cell.now i v c.dims.next from (omega arith)
+    ∙ ap (λ x. Some x) (sym c.get.ensures.value) in
     let on = goes_on a.width a.now (source_before g.d) c.requires.1.tree cell long c.dims.node.0 c.dims.next
     (value_in c.get.result) _ (omega arith) at c.dims.invariant.on (sym c.in_err-node.ensures.value) in
     rw c.from_residual.ensures (stops a.width a.now (source_before g.d) c.requires.1.tree cell long (suc c.dims.next) on)
@@ -21,14 +27,18 @@ returns-in_err-node-clause-found g c =
 pub dims-preserved : goal.dims-preserved
 dims-preserved g c =
     let a = c.args.arena.now in
-    let cell = c.args.cell.now in
+    let i = c.args.label.0 in
+    let v = c.args.label.1 in
+    let cell = with_value c.args.cell.now i v in
     let long = c.requires.1.long in
+    let same = length-set c.args.cell.now i (Some v) in
     let many = c.dims-dims.ensures.value in
-    let at = entry_at cell c.dims.next (omega arith) ∙ ap (λ x. Some x) (sym c.get.ensures.value) in
+    let from = c.dims.invariant.from in
+    let at = entry_after c.args.cell.now i v c.dims.next from (omega arith)
+    ∙ ap (λ x. Some x) (sym c.get.ensures.value) in
     let on = goes_on a.width a.now (source_before g.d) c.requires.1.tree cell long c.dims.node.0 c.dims.next
     (value_in c.get.result) _ (omega arith) at c.dims.invariant.on (sym c.in_ok-node.ensures.value) in
     let next : suc c.dims.next ≡ c.dims.next + 1 = omega arith in
-    let from = c.dims.invariant.from in
     let had = c.dims.invariant.steps in
     let took = c.step.ensures.steps in
     record {
@@ -41,8 +51,10 @@ dims-preserved g c =
 pub returns-clause-found : goal.returns-clause-found
 returns-clause-found g c =
     let a = c.args.arena.now in
+    let cell = with_value c.args.cell.now c.args.label.0 c.args.label.1 in
     let long = c.requires.1.long in
+    let same = length-set c.args.cell.now c.args.label.0 (Some c.args.label.1) in
     let many = c.dims-dims.ensures.value in
     let past = c.dims-test.false in
-    ends a.width a.now (source_before g.d) c.requires.1.tree c.args.cell.now long (Some c.dims.node.0) c.dims.next
+    ends a.width a.now (source_before g.d) c.requires.1.tree cell long (Some c.dims.node.0) c.dims.next
     (omega arith) c.dims.invariant.on
