@@ -65,9 +65,7 @@ fn are_kept<L: Ledger>(
 ) -> bool {
     let Asking { asked, end, gone } = asking;
     'batches: for batch in 0..end {
-        if !gone.contains(&batch)
-            && is_kept(alloc, pinned, asked, text, batch, steps) != Some(true)
-        {
+        if !gone.contains(&batch) && !is_kept(alloc, pinned, asked, text, batch, steps) {
             return false;
         }
     }

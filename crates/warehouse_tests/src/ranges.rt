@@ -59,15 +59,60 @@ fn push_hit(alloc: Global, lines: &mut String, shop: &Warehouse, hit: &Hit) -> R
     }
     let (count, sum) = (hit.agg.count, hit.agg.parts[0].sum);
     let end = format!(in alloc; "{count},{sum}\n")?;
-    lines.push_str(end.as_str())
+    let is_pushed = lines.push_str(end.as_str());
+    drop(end);
+    is_pushed
 }
 
-fn lines_of(alloc: Global, shop: &Warehouse, hits: &[Hit]) -> Result<String, Memory> {
-    let mut lines = String::new(alloc);
+fn push_hits(
+    alloc: Global,
+    lines: &mut String,
+    shop: &Warehouse,
+    hits: &[Hit],
+) -> Result<(), Memory> {
     'hits: for hit in hits {
-        push_hit(alloc, &mut lines, shop, hit)?;
+        push_hit(alloc, lines, shop, hit)?;
     }
-    Ok(lines)
+    Ok(())
+}
+
+// Whether the cells are written so.
+fn are_written(alloc: Global, shop: &Warehouse, hits: &[Hit], cells: &str) -> bool {
+    let mut lines = String::new(alloc);
+    let are_written = push_hits(alloc, &mut lines, shop, hits).is_ok() && lines.as_str() == cells;
+    drop(lines);
+    are_written
+}
+
+// How many cells a query has, if just these, in order.
+fn count<L: Ledger>(
+    alloc: Global,
+    shop: &Warehouse,
+    asked: &Fields,
+    cells: &str,
+    steps: &mut Steps<L>,
+) -> Option<usize>
+    requires { length asked.now ≡ length shop.now.state.schema.dims }
+{
+    let Ok(hits) = answer(alloc, shop, asked, 64, steps) else {
+        return None;
+    };
+    let are_written = are_written(alloc, shop, &hits, cells);
+    let count = hits.len();
+    drop(hits);
+    if are_written { Some(count) } else { None }
+}
+
+// Whether an answer is there, and not too long. None where it is refused for another cause.
+fn has_answer(answer: Result<Vec<Hit>, RangeRefused>) -> Option<bool> {
+    match answer {
+        Ok(hits) => {
+            drop(hits);
+            Some(true)
+        }
+        Err(RangeRefused::TooMany) => Some(false),
+        Err(_) => None,
+    }
 }
 
 // Whether just so many cells may be asked for, and one less is too few.
@@ -83,9 +128,8 @@ fn is_exact<L: Ledger>(
     if count == 0 {
         return true;
     }
-    let whole = answer(alloc, shop, asked, count, steps);
-    let short = answer(alloc, shop, asked, count - 1, steps);
-    whole.is_ok() && matches!(short, Err(RangeRefused::TooMany))
+    has_answer(answer(alloc, shop, asked, count, steps)) == Some(true)
+        && has_answer(answer(alloc, shop, asked, count - 1, steps)) == Some(false)
 }
 
 // Whether a query has just these cells, in order.
@@ -101,23 +145,17 @@ fn is_answered<L: Ledger>(
     if shop.schema().dims() != 3 {
         return false;
     }
-    let Ok(hits) = answer(alloc, shop, asked, 64, steps) else {
-        return false;
-    };
-    let is_right = match lines_of(alloc, shop, &hits) {
-        Ok(lines) => lines.as_str() == cells,
-        Err(_) => false,
-    };
-    is_right && hits.len() <= 64 && is_exact(alloc, shop, asked, hits.len() as u32, steps)
+    match count(alloc, shop, asked, cells, steps) {
+        Some(count) => count <= 64 && is_exact(alloc, shop, asked, count as u32, steps),
+        None => false,
+    }
 }
 
 // Whether a warehouse of a base file answers a range as the case says.
 fn is_right<L: Ledger>(alloc: Global, case: &str, steps: &mut Steps<L>) -> Option<bool> {
     let mut parts = case.split("\n--\n");
     let (rows, asked, cells) = (parts.next()?, parts.next()?, parts.next()?);
-    let Ok(asked) = fields(alloc, asked) else {
-        return None;
-    };
+    let asked = fields(alloc, asked)?;
     let Some(shop) = filled(alloc, SCHEMA, &[base(rows.as_bytes())], steps) else {
         drop(asked);
         return None;

@@ -3,7 +3,7 @@
 use cell_core::Steps;
 use cube_defs::MAX_FILE;
 use cube_snapshot::{DecodeRefused, decode, encode};
-use std::alloc::{AllocError, Global};
+use std::alloc::Global;
 use std::sync::ledger::Ledger;
 use warehouse::Warehouse;
 
@@ -98,63 +98,66 @@ fn are_cuts_refused<L: Ledger>(alloc: Global, steps: &mut Steps<L>) -> bool {
 }
 
 // Whether a byte more after a snapshot is refused.
-fn is_longer_refused<L: Ledger>(
-    alloc: Global,
-    byte: u8,
-    steps: &mut Steps<L>,
-) -> Result<bool, AllocError> {
-    let mut bytes = Vec::from_slice(alloc, FULL)?;
-    bytes.push(byte)?;
-    Ok(is_refused(alloc, &bytes, steps))
+fn is_longer_refused<L: Ledger>(alloc: Global, byte: u8, steps: &mut Steps<L>) -> bool {
+    let Ok(mut bytes) = Vec::from_slice(alloc, FULL) else {
+        return false;
+    };
+    let is_right = bytes.push(byte).is_ok() && is_refused(alloc, &bytes, steps);
+    drop(bytes);
+    is_right
 }
 
 // Whether nothing may stand after a snapshot.
-fn are_longer_refused<L: Ledger>(alloc: Global, steps: &mut Steps<L>) -> Result<bool, AllocError> {
+fn are_longer_refused<L: Ledger>(alloc: Global, steps: &mut Steps<L>) -> bool {
     'bytes: for byte in 0..4 {
-        if !is_longer_refused(alloc, byte, steps)? {
-            return Ok(false);
+        if !is_longer_refused(alloc, byte, steps) {
+            return false;
         }
     }
-    Ok(true)
+    true
 }
 
-// Whether a snapshot with one byte changed is refused, or that of another state.
-fn is_changed_well<L: Ledger>(
-    alloc: Global,
-    place: usize,
-    mask: u8,
-    steps: &mut Steps<L>,
-) -> Result<bool, AllocError> {
-    let mut bytes = Vec::from_slice(alloc, FULL)?;
+// Whether bytes are refused, but not for memory, or those of a snapshot.
+fn is_told_well<L: Ledger>(alloc: Global, bytes: &[u8], steps: &mut Steps<L>) -> bool {
+    match answer(alloc, bytes, steps) {
+        Verdict::Spelled | Verdict::Refused(DecodeRefused::Form | DecodeRefused::NodesFull) => true,
+        Verdict::Misread | Verdict::Refused(DecodeRefused::Memory) => false,
+    }
+}
+
+fn change_byte(bytes: &mut [u8], place: usize, mask: u8) {
     if let Some(byte) = bytes.get_mut(place) {
         *byte ^= mask;
     }
-    Ok(match answer(alloc, &bytes, steps) {
-        Verdict::Spelled | Verdict::Refused(DecodeRefused::Form | DecodeRefused::NodesFull) => true,
-        Verdict::Misread | Verdict::Refused(DecodeRefused::Memory) => false,
-    })
+}
+
+// Whether a snapshot with one byte changed is refused, or that of another state.
+fn is_changed_well<L: Ledger>(alloc: Global, place: usize, mask: u8, steps: &mut Steps<L>) -> bool {
+    let Ok(mut bytes) = Vec::from_slice(alloc, FULL) else {
+        return false;
+    };
+    change_byte(&mut bytes, place, mask);
+    let is_told_well = is_told_well(alloc, &bytes, steps);
+    drop(bytes);
+    is_told_well
 }
 
 // Whether each byte of a snapshot counts.
-fn are_changed_well<L: Ledger>(alloc: Global, steps: &mut Steps<L>) -> Result<bool, AllocError> {
+fn are_changed_well<L: Ledger>(alloc: Global, steps: &mut Steps<L>) -> bool {
     'places: for place in 0..232 {
-        if !is_changed_well(alloc, place, 1, steps)?
-            || !is_changed_well(alloc, place, 128, steps)?
-        {
-            return Ok(false);
+        if !is_changed_well(alloc, place, 1, steps) || !is_changed_well(alloc, place, 128, steps) {
+            return false;
         }
     }
-    Ok(true)
+    true
 }
 
 /// Whether a snapshot is one, and a tree with too many nodes, a prefix, and more or other bytes are
 /// none.
-pub fn are_right<L: Ledger>(alloc: Global, steps: &mut Steps<L>) -> Result<bool, AllocError> {
-    Ok(
-        matches!(answer(alloc, FULL, steps), Verdict::Spelled)
-            && is_crowded(alloc, CROWDED, steps)
-            && are_cuts_refused(alloc, steps)
-            && are_longer_refused(alloc, steps)?
-            && are_changed_well(alloc, steps)?,
-    )
+pub fn are_right<L: Ledger>(alloc: Global, steps: &mut Steps<L>) -> bool {
+    matches!(answer(alloc, FULL, steps), Verdict::Spelled)
+        && is_crowded(alloc, CROWDED, steps)
+        && are_cuts_refused(alloc, steps)
+        && are_longer_refused(alloc, steps)
+        && are_changed_well(alloc, steps)
 }

@@ -2,7 +2,7 @@
 // rows after it.
 
 use crate::shops::{File, base, batch, change, filled};
-use crate::tree_text::text_of;
+use crate::tree_text::push_tree;
 use cell_core::Steps;
 use std::alloc::Global;
 use std::str;
@@ -207,10 +207,10 @@ fn has_tree<L: Ledger>(
     let Some(tree) = tree else {
         return true;
     };
-    match text_of(alloc, shop, steps) {
-        Ok(text) => text.as_str() == tree,
-        Err(_) => false,
-    }
+    let mut text = String::new(alloc);
+    let is_right = push_tree(alloc, &mut text, shop, steps).is_ok() && text.as_str() == tree;
+    drop(text);
+    is_right
 }
 
 // Whether a step goes as it says.
@@ -224,8 +224,10 @@ fn goes<L: Ledger>(
     let Ok(before) = cells(alloc, shop.tree(), steps) else {
         return false;
     };
-    answers(alloc, shop, step, steps)
-        && keeps_numbers(alloc, start, shop, &before, step.between, steps)
+    let is_made = answers(alloc, shop, step, steps)
+        && keeps_numbers(alloc, start, shop, &before, step.between, steps);
+    drop(before);
+    is_made
         && has_rows(alloc, start, shop, step.after, steps)
         && has_texts(shop, step.texts)
         && has_tree(alloc, shop, step.tree, steps)

@@ -66,7 +66,17 @@ fn push_class(alloc: Global, text: &mut String, class: Option<Agg>) -> Result<()
     let (count, part) = (agg.count, agg.parts[0]);
     let (sum, least, greatest) = (part.sum, part.least, part.greatest);
     let numbers = format!(in alloc; "|{count} {sum} {least} {greatest}|")?;
-    text.push_str(numbers.as_str())
+    let is_pushed = text.push_str(numbers.as_str());
+    drop(numbers);
+    is_pushed
+}
+
+// Writes the dimension and the text of an edge.
+fn push_label(alloc: Global, text: &mut String, dim: u8, value: &str) -> Result<(), AllocError> {
+    let label = format!(in alloc; "|{dim} {value} ")?;
+    let is_pushed = text.push_str(label.as_str());
+    drop(label);
+    is_pushed
 }
 
 // Writes the dimension and the text of each edge, and the cell to which it leads.
@@ -83,9 +93,7 @@ fn push_edges<L: Ledger>(
     let count = tree.edge_count(node, steps);
     'edges: for k in 0..count {
         let (dim, code, target) = tree.edge_at(node, k, steps);
-        let value = text_at(dict, dim, code);
-        let label = format!(in alloc; "|{dim} {value} ")?;
-        text.push_str(label.as_str())?;
+        push_label(alloc, text, dim, text_at(dict, dim, code))?;
         push_node(text, tree, dict, Some(target), steps)?;
     }
     Ok(())
@@ -147,7 +155,27 @@ fn is_found<L: Ledger>(
     }
 }
 
-// The record of a node, and whether it is found by its cell. Nothing where no node is.
+// Writes the record of a node, and whether it is found by its cell.
+fn push_line<L: Ledger>(
+    alloc: Global,
+    line: &mut String,
+    shop: &Warehouse,
+    node: NodeNo,
+    steps: &mut Steps<L>,
+) -> Result<(), AllocError> {
+    if !shop.tree().has(node) {
+        return Ok(());
+    }
+    push_record(alloc, line, shop.tree(), shop.dict(), node, steps)?;
+    let end = if is_found(alloc, shop, node, steps) {
+        "|found\n"
+    } else {
+        "|\n"
+    };
+    line.push_str(end)
+}
+
+// The line of a node. Nothing where no node is.
 fn line_of<L: Ledger>(
     alloc: Global,
     shop: &Warehouse,
@@ -155,49 +183,63 @@ fn line_of<L: Ledger>(
     steps: &mut Steps<L>,
 ) -> Result<String, AllocError> {
     let mut line = String::new(alloc);
-    let tree = shop.tree();
-    if tree.has(node) {
-        push_record(alloc, &mut line, tree, shop.dict(), node, steps)?;
-        let end = if is_found(alloc, shop, node, steps) {
-            "|found\n"
-        } else {
-            "|\n"
-        };
-        line.push_str(end)?;
+    match push_line(alloc, &mut line, shop, node, steps) {
+        Ok(()) => Ok(line),
+        Err(error) => {
+            drop(line);
+            Err(error)
+        }
     }
-    Ok(line)
 }
 
-// The records of all nodes, sorted.
-fn lines_of<L: Ledger>(
+// The lines of all nodes, sorted.
+fn push_lines<L: Ledger>(
     alloc: Global,
+    lines: &mut Vec<String>,
     shop: &Warehouse,
     steps: &mut Steps<L>,
-) -> Result<Vec<String>, AllocError> {
-    let mut lines = Vec::new(alloc);
+) -> Result<(), AllocError> {
     'nodes: for number in 0..NUMBERS {
         lines.push(line_of(alloc, shop, NodeNo(number), steps)?)?;
     }
-    lines.sort()?;
-    Ok(lines)
+    lines.sort()
 }
 
-/// The counts and the records.
-pub fn text_of<L: Ledger>(
-    alloc: Global,
-    shop: &Warehouse,
-    steps: &mut Steps<L>,
-) -> Result<String, AllocError> {
+fn push_all(text: &mut String, lines: &[String]) -> Result<(), AllocError> {
+    'lines: for line in lines {
+        text.push_str(line.as_str())?;
+    }
+    Ok(())
+}
+
+// Writes the counts.
+fn push_counts(alloc: Global, text: &mut String, stats: Stats) -> Result<(), AllocError> {
     let Stats {
         rows,
         classes,
         nodes,
         tree_edges,
         links,
-    } = shop.stats();
-    let mut text = format!(in alloc; "{rows} {classes} {nodes} {tree_edges} {links}\n")?;
-    for line in lines_of(alloc, shop, steps)?.iter() {
-        text.push_str(line.as_str())?;
+    } = stats;
+    let counts = format!(in alloc; "{rows} {classes} {nodes} {tree_edges} {links}\n")?;
+    let is_pushed = text.push_str(counts.as_str());
+    drop(counts);
+    is_pushed
+}
+
+/// Writes the counts and the records.
+pub fn push_tree<L: Ledger>(
+    alloc: Global,
+    text: &mut String,
+    shop: &Warehouse,
+    steps: &mut Steps<L>,
+) -> Result<(), AllocError> {
+    push_counts(alloc, text, shop.stats())?;
+    let mut lines = Vec::new(alloc);
+    let mut are_pushed = push_lines(alloc, &mut lines, shop, steps);
+    if are_pushed.is_ok() {
+        are_pushed = push_all(text, &lines);
     }
-    Ok(text)
+    drop(lines);
+    are_pushed
 }

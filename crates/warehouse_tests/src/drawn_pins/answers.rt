@@ -6,7 +6,7 @@ use crate::drawn_pins::iceberg_answers::{are_lowers, is_total};
 use crate::drawn_pins::icebergs::are_icebergs;
 use crate::drawn_pins::lines::{Line, Sale, cell_at, cell_of, closes, is_same, line_of, total_of};
 use crate::drawn_pins::ranges::are_ranges;
-use cell_core::{Memory, Steps};
+use cell_core::Steps;
 use lower_bounds::{ClassHit, find_class};
 use qc_arena::Nodes;
 use std::alloc::Global;
@@ -65,14 +65,19 @@ fn has_class<T: Nodes, L: Ledger>(
     cell: &Line,
     sales: &[Sale],
     steps: &mut Steps<L>,
-) -> Result<bool, Memory>
+) -> bool
     requires tree { IsOfOneMeasure (T.tree tree.now) }
     requires width { T.width tree.now ≡ 3 }
 {
-    match find_class(alloc, tree, &cell_of(alloc, cell), steps)? {
-        Some(class) => Ok(is_class_of(&class, cell, sales)),
-        None => Ok(total_of(cell, sales).count == 0),
-    }
+    let Ok(found) = find_class(alloc, tree, &cell_of(alloc, cell), steps) else {
+        return false;
+    };
+    let Some(class) = found else {
+        return total_of(cell, sales).count == 0;
+    };
+    let is_right = is_class_of(&class, cell, sales);
+    drop(class);
+    is_right
 }
 
 fn are_classes<T: Nodes, L: Ledger>(
@@ -80,16 +85,16 @@ fn are_classes<T: Nodes, L: Ledger>(
     tree: &T,
     sales: &[Sale],
     steps: &mut Steps<L>,
-) -> Result<bool, Memory>
+) -> bool
     requires tree { IsOfOneMeasure (T.tree tree.now) }
     requires width { T.width tree.now ≡ 3 }
 {
     'cells: for place in 0..64 {
-        if !has_class(alloc, tree, &cell_at(place), sales, steps)? {
-            return Ok(false);
+        if !has_class(alloc, tree, &cell_at(place), sales, steps) {
+            return false;
         }
     }
-    Ok(true)
+    true
 }
 
 /// What is asked of a tree.
@@ -108,20 +113,20 @@ pub fn are_right<T: Nodes, L: Ledger>(
     asked: Asked,
     sales: &[Sale],
     steps: &mut Steps<L>,
-) -> Result<bool, Memory>
+) -> bool
     requires tree { IsOfOneMeasure (T.tree tree.now) }
     requires width { T.width tree.now ≡ 3 }
     requires lists { length dict.now.lists ≡ 3 }
 {
     if !are_points(alloc, tree, sales, steps) {
-        return Ok(false);
+        return false;
     }
     match asked {
-        Asked::Points => Ok(true),
-        Asked::All => Ok(
-            are_classes(alloc, tree, sales, steps)?
-                && are_ranges(alloc, tree, dict, sales, steps)?
-                && are_icebergs(alloc, tree, dict, sales, steps)?,
-        ),
+        Asked::Points => true,
+        Asked::All => {
+            are_classes(alloc, tree, sales, steps)
+                && are_ranges(alloc, tree, dict, sales, steps)
+                && are_icebergs(alloc, tree, dict, sales, steps)
+        }
     }
 }

@@ -6,7 +6,7 @@ ghost use Rattle.warehouse_tests.specs.Cubes.{IsOfOneMeasure};
 use crate::drawn_pins::iceberg_answers;
 use crate::drawn_pins::lines::Sale;
 use aggregates::{AggKind, Fraction, read_fraction};
-use cell_core::{Memory, Steps};
+use cell_core::Steps;
 use iceberg_query::{Ask, Bound, iceberg};
 use measure_index::Index;
 use qc_arena::Nodes;
@@ -14,15 +14,7 @@ use std::alloc::Global;
 use std::sync::ledger::Ledger;
 use value_dict::Dict;
 
-const KINDS: [AggKind; 5] = [
-    AggKind::Count,
-    AggKind::Sum(0),
-    AggKind::Least(0),
-    AggKind::Greatest(0),
-    AggKind::Mean(0),
-];
-
-const VALUES: [&[u8]; 3] = [b"2", b"-1/2", b"0"];
+static VALUES: [&[u8]; 3] = [b"2", b"-1/2", b"0"];
 
 // Whether an iceberg is right. Its index has no kinds.
 fn is_right<T: Nodes, L: Ledger>(
@@ -32,19 +24,23 @@ fn is_right<T: Nodes, L: Ledger>(
     ask: &Ask,
     sales: &[Sale],
     steps: &mut Steps<L>,
-) -> Result<bool, Memory>
+) -> bool
     requires tree { IsOfOneMeasure (T.tree tree.now) }
     requires width { T.width tree.now ≡ 3 }
     requires lists { length dict.now.lists ≡ 3 }
     requires kind { IsThere 1 ask.now.kind }
 {
-    let index = Index::new(alloc, &[], &[1])?;
+    let Ok(index) = Index::new(alloc, &[], &[1]) else {
+        return false;
+    };
     let classes = iceberg(alloc, tree, &index, dict, ask, steps);
     drop(index);
-    match classes {
-        Ok(classes) => Ok(iceberg_answers::is_right(ask, sales, &classes)),
-        Err(memory) => Err(memory),
-    }
+    let Ok(classes) = classes else {
+        return false;
+    };
+    let is_right = iceberg_answers::is_right(ask, sales, &classes);
+    drop(classes);
+    is_right
 }
 
 // Whether the icebergs of a kind are right, from both sides.
@@ -56,7 +52,7 @@ fn are_both_right<T: Nodes, L: Ledger>(
     value: Fraction,
     sales: &[Sale],
     steps: &mut Steps<L>,
-) -> Result<bool, Memory>
+) -> bool
     requires tree { IsOfOneMeasure (T.tree tree.now) }
     requires width { T.width tree.now ≡ 3 }
     requires lists { length dict.now.lists ≡ 3 }
@@ -75,10 +71,8 @@ fn are_both_right<T: Nodes, L: Ledger>(
         bound: Bound::AtMost,
         value,
     };
-    Ok(
-        is_right(alloc, tree, dict, &least, sales, steps)?
-            && is_right(alloc, tree, dict, &most, sales, steps)?,
-    )
+    is_right(alloc, tree, dict, &least, sales, steps)
+        && is_right(alloc, tree, dict, &most, sales, steps)
 }
 
 // Whether the icebergs of a value are right, of each kind.
@@ -89,17 +83,16 @@ fn are_right<T: Nodes, L: Ledger>(
     value: Fraction,
     sales: &[Sale],
     steps: &mut Steps<L>,
-) -> Result<bool, Memory>
+) -> bool
     requires tree { IsOfOneMeasure (T.tree tree.now) }
     requires width { T.width tree.now ≡ 3 }
     requires lists { length dict.now.lists ≡ 3 }
 {
-    'kinds: for kind in KINDS {
-        if !are_both_right(alloc, tree, dict, kind, value, sales, steps)? {
-            return Ok(false);
-        }
-    }
-    Ok(true)
+    are_both_right(alloc, tree, dict, AggKind::Count, value, sales, steps)
+        && are_both_right(alloc, tree, dict, AggKind::Sum(0), value, sales, steps)
+        && are_both_right(alloc, tree, dict, AggKind::Least(0), value, sales, steps)
+        && are_both_right(alloc, tree, dict, AggKind::Greatest(0), value, sales, steps)
+        && are_both_right(alloc, tree, dict, AggKind::Mean(0), value, sales, steps)
 }
 
 /// Whether each iceberg is answered by the classes that pass.
@@ -109,18 +102,18 @@ pub fn are_icebergs<T: Nodes, L: Ledger>(
     dict: &Dict,
     sales: &[Sale],
     steps: &mut Steps<L>,
-) -> Result<bool, Memory>
+) -> bool
     requires tree { IsOfOneMeasure (T.tree tree.now) }
     requires width { T.width tree.now ≡ 3 }
     requires lists { length dict.now.lists ≡ 3 }
 {
-    'values: for text in VALUES {
-        let Some(value) = read_fraction(text) else {
-            return Ok(false);
+    'values: for text in &VALUES {
+        let Some(value) = read_fraction(*text) else {
+            return false;
         };
-        if !are_right(alloc, tree, dict, value, sales, steps)? {
-            return Ok(false);
+        if !are_right(alloc, tree, dict, value, sales, steps) {
+            return false;
         }
     }
-    Ok(true)
+    true
 }

@@ -2,10 +2,10 @@
 use crate::drawn_pins::answers::{Asked, are_right};
 use crate::drawn_pins::lines::Sale;
 use crate::drawn_pins::rows::{file_at, sales_at};
-use cell_core::{Memory, Steps};
+use cell_core::Steps;
 use pinned_view::{PinRefused, Pinned};
 use qc_schema::read_schema;
-use std::alloc::{AllocError, Global};
+use std::alloc::Global;
 use std::sync::ledger::Ledger;
 use warehouse::{Refused, Warehouse};
 
@@ -29,8 +29,11 @@ pub fn opened(alloc: Global) -> Option<Pinned> {
 }
 
 // The name of the pin of a batch.
-fn name_of(alloc: Global, batch: u32) -> Result<String, AllocError> {
-    format!(in alloc; "p{batch}")
+fn name_of(alloc: Global, batch: u32) -> Option<String> {
+    match format!(in alloc; "p{batch}") {
+        Ok(name) => Some(name),
+        Err(_) => None,
+    }
 }
 
 /// Whether a batch is taken. The first one, and the one after all rows went, is a base file.
@@ -47,22 +50,34 @@ pub fn takes<L: Ledger>(pinned: &mut Pinned, text: &str, batch: u32, steps: &mut
     answer.is_ok()
 }
 
-/// What pinning the rows of now under the name of a batch answers.
-pub fn pin(alloc: Global, pinned: &mut Pinned, batch: u32) -> Option<Result<(), PinRefused>> {
-    let name = name_of(alloc, batch).ok()?;
+// What pinning the rows of now under a name answers.
+fn pin_as(pinned: &mut Pinned, name: &str) -> Option<Result<(), PinRefused>> {
     if name.len() > 32 {
         return None;
     }
-    Some(pinned.pin(name.as_str()))
+    Some(pinned.pin(name))
+}
+
+/// What pinning the rows of now under the name of a batch answers.
+pub fn pin(alloc: Global, pinned: &mut Pinned, batch: u32) -> Option<Result<(), PinRefused>> {
+    let name = name_of(alloc, batch)?;
+    let answer = pin_as(pinned, name.as_str());
+    drop(name);
+    answer
+}
+
+fn lets_go(pinned: &mut Pinned, name: &str) -> bool {
+    pinned.unpin(name).is_ok() && pinned.view(name).is_none()
 }
 
 /// Whether the pin of a batch was there, and is let go.
 pub fn unpins(alloc: Global, pinned: &mut Pinned, batch: u32) -> bool {
-    let Ok(name) = name_of(alloc, batch) else {
+    let Some(name) = name_of(alloc, batch) else {
         return false;
     };
-    let answer = pinned.unpin(name.as_str());
-    answer.is_ok() && pinned.view(name.as_str()).is_none()
+    let lets_go = lets_go(pinned, name.as_str());
+    drop(name);
+    lets_go
 }
 
 // Whether the version of a name answers what is asked as the rows that were there.
@@ -73,14 +88,14 @@ fn answers<L: Ledger>(
     asked: Asked,
     sales: &[Sale],
     steps: &mut Steps<L>,
-) -> Result<bool, Memory> {
+) -> bool {
     let shop = pinned.now();
     if shop.schema().dims() != 3 || shop.schema().measures() != 1 {
-        return Ok(false);
+        return false;
     }
     match pinned.view(name) {
         Some(view) => are_right(alloc, &view, shop.dict(), asked, sales, steps),
-        None => Ok(false),
+        None => false,
     }
 }
 
@@ -92,10 +107,20 @@ pub fn is_kept<L: Ledger>(
     text: &str,
     batch: u32,
     steps: &mut Steps<L>,
-) -> Option<bool> {
-    let sales = sales_at(alloc, text, batch)?;
-    let name = name_of(alloc, batch).ok()?;
-    answers(alloc, pinned, name.as_str(), asked, &sales, steps).ok()
+) -> bool {
+    let Some(sales) = sales_at(alloc, text, batch) else {
+        return false;
+    };
+    let is_kept = match name_of(alloc, batch) {
+        Some(name) => {
+            let answers = answers(alloc, pinned, name.as_str(), asked, &sales, steps);
+            drop(name);
+            answers
+        }
+        None => false,
+    };
+    drop(sales);
+    is_kept
 }
 
 /// Whether a batch is refused that deletes a row that isn't there, and another is tried.

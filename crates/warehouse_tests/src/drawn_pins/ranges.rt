@@ -1,10 +1,11 @@
 // Ranges, beside the cells that are asked and cover rows.
-ghost use Rattle.std.specs.Prelude.{IfOk, length, ◌≡◌};
+ghost use Rattle.std.specs.Prelude.{length, ◌≡◌};
 ghost use Rattle.warehouse_tests.specs.Cubes.{IsOfOneMeasure};
 
 use crate::drawn_pins::iceberg_answers::is_total;
 use crate::drawn_pins::lines::{ANY, Line, Sale, cell_at, cell_order, line_of, total_of};
-use cell_core::{Field, Fields, Memory, Steps, Text, Texts};
+use crate::range_fields::three;
+use cell_core::{Fields, Steps};
 use qc_arena::Nodes;
 use range_query::{Hit, RangeRefused, range};
 use std::alloc::Global;
@@ -12,8 +13,7 @@ use std::sync::ledger::Ledger;
 use value_dict::Dict;
 
 // What each dimension is asked: 0 for Any, 1 for the text a, 2 for each text, 3 for b or c, and 4
-// for those from
-// a to b.
+// for those from a to b.
 type Choices = [u8; 3];
 
 // The choices with a number below 125.
@@ -21,35 +21,15 @@ fn choices(number: u8) -> Choices {
     [number / 25 % 5, number / 5 % 5, number % 5]
 }
 
-fn text(alloc: Global, text: &str) -> Result<Text, Memory> {
-    Text::new(alloc, text)
-}
-
-fn b_or_c(alloc: Global) -> Result<Texts, Memory> {
-    let mut texts = Texts::new(alloc);
-    texts.push(text(alloc, "c")?)?;
-    texts.push(text(alloc, "b")?)?;
-    Ok(texts)
-}
-
-fn field(alloc: Global, choice: u8) -> Result<Field, Memory> {
+// A choice as in a script.
+fn word_of(choice: u8) -> &'static str {
     match choice {
-        0 => Ok(Field::Any),
-        1 => Ok(Field::One(text(alloc, "a")?)),
-        2 => Ok(Field::All),
-        3 => Ok(Field::Among(b_or_c(alloc)?)),
-        _ => Ok(Field::Between(text(alloc, "a")?, text(alloc, "b")?)),
+        0 => "*",
+        1 => "=a",
+        2 => "?",
+        3 => "|c|b",
+        _ => "~a~b",
     }
-}
-
-fn fields(alloc: Global, choices: &Choices) -> Result<Fields, Memory>
-    ensures { IfOk result (λ fields. length fields ≡ 3) }
-{
-    let mut fields = Fields::new(alloc);
-    fields.push(field(alloc, choices[0])?)?;
-    fields.push(field(alloc, choices[1])?)?;
-    fields.push(field(alloc, choices[2])?)?;
-    Ok(fields)
 }
 
 // Whether a choice asks for an entry. The texts of 0, 1 and 2 are c, a and b.
@@ -130,18 +110,27 @@ fn is_right<T: Nodes, L: Ledger>(
     choices: &Choices,
     sales: &[Sale],
     steps: &mut Steps<L>,
-) -> Result<bool, Memory>
+) -> bool
     requires tree { IsOfOneMeasure (T.tree tree.now) }
     requires width { T.width tree.now ≡ 3 }
     requires lists { length dict.now.lists ≡ 3 }
 {
-    let asked = fields(alloc, choices)?;
+    let words = [
+        word_of(choices[0]),
+        word_of(choices[1]),
+        word_of(choices[2]),
+    ];
+    let Some(asked) = three(alloc, &words) else {
+        return false;
+    };
     let hits = answer(alloc, tree, dict, &asked, steps);
     drop(asked);
-    match hits {
-        Ok(hits) => Ok(are_right(choices, sales, &hits)),
-        Err(_) => Ok(false),
-    }
+    let Ok(hits) = hits else {
+        return false;
+    };
+    let are_right = are_right(choices, sales, &hits);
+    drop(hits);
+    are_right
 }
 
 /// Whether each range is answered by the cells that are asked and cover a row.
@@ -151,15 +140,15 @@ pub fn are_ranges<T: Nodes, L: Ledger>(
     dict: &Dict,
     sales: &[Sale],
     steps: &mut Steps<L>,
-) -> Result<bool, Memory>
+) -> bool
     requires tree { IsOfOneMeasure (T.tree tree.now) }
     requires width { T.width tree.now ≡ 3 }
     requires lists { length dict.now.lists ≡ 3 }
 {
     'choices: for number in 0..125 {
-        if !is_right(alloc, tree, dict, &choices(number), sales, steps)? {
-            return Ok(false);
+        if !is_right(alloc, tree, dict, &choices(number), sales, steps) {
+            return false;
         }
     }
-    Ok(true)
+    true
 }

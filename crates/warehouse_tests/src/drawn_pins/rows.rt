@@ -41,13 +41,26 @@ fn sale_of(line: &str) -> Option<Sale> {
     })
 }
 
+fn push_sales(sales: &mut Vec<Sale>, rows: &str) -> bool {
+    'rows: for line in rows.lines() {
+        let Some(sale) = sale_of(line) else {
+            return false;
+        };
+        if sales.push(sale).is_err() {
+            return false;
+        }
+    }
+    true
+}
+
 /// The rows after a batch.
 pub fn sales_at(alloc: Global, text: &str, batch: u32) -> Option<Vec<Sale>> {
     let (_, base) = part(text, batch)?;
     let (_, rows) = base.split_once('\n')?;
     let mut sales = Vec::new(alloc);
-    'rows: for line in rows.lines() {
-        sales.push(sale_of(line)?).ok()?;
+    if push_sales(&mut sales, rows) {
+        return Some(sales);
     }
-    Some(sales)
+    drop(sales);
+    None
 }
