@@ -101,21 +101,35 @@ fn line_of(alloc: Global, line: Line, k: u32) -> Result<String, AllocError> {
     }
 }
 
-fn text_of(alloc: Global, file: &Long) -> Result<String, AllocError> {
-    let mut text = String::from_str(alloc, file.first)?;
+fn push_line(alloc: Global, text: &mut String, line: Line, k: u32) -> Result<(), AllocError> {
+    let line = line_of(alloc, line, k)?;
+    let is_pushed = text.push_str(line.as_str());
+    drop(line);
+    is_pushed
+}
+
+fn push_file(alloc: Global, text: &mut String, file: &Long) -> Result<(), AllocError> {
+    text.push_str(file.first)?;
     'lines: for k in file.from..=file.to {
-        let line = line_of(alloc, file.line, k)?;
-        text.push_str(line.as_str())?;
+        push_line(alloc, text, file.line, k)?;
     }
-    text.push_str(file.last)?;
-    Ok(text)
+    text.push_str(file.last)
+}
+
+fn write_file(rt: &HostRuntime, file: &Long) -> io::Result<()> {
+    let mut text = String::new(rt.alloc());
+    let is_written = match push_file(rt.alloc(), &mut text, file) {
+        Ok(()) => fs::write(rt, file.path, text.as_str()),
+        Err(error) => Err(error.into()),
+    };
+    drop(text);
+    is_written
 }
 
 /// Writes them.
 pub fn write(rt: &HostRuntime) -> io::Result<()> {
     'files: for file in &FILES {
-        let text = text_of(rt.alloc(), file)?;
-        fs::write(rt, file.path, text.as_str())?;
+        write_file(rt, file)?;
     }
     Ok(())
 }

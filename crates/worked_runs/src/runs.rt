@@ -13,13 +13,21 @@ pub struct Ended {
     pub has_end: bool,
 }
 
-/// The words of a run over the files of these names.
-pub fn words_of(alloc: Global, texts: &[&str]) -> Result<Vec<String>, AllocError> {
-    let mut words = Vec::new(alloc);
+fn push_words(alloc: Global, words: &mut Vec<String>, texts: &[&str]) -> Result<(), AllocError> {
     'texts: for text in texts {
         words.push(String::from_str(alloc, text)?)?;
     }
-    Ok(words)
+    Ok(())
+}
+
+/// The words of a run over the files of these names.
+pub fn words_of(alloc: Global, texts: &[&str]) -> Option<Vec<String>> {
+    let mut words = Vec::new(alloc);
+    if push_words(alloc, &mut words, texts).is_ok() {
+        return Some(words);
+    }
+    drop(words);
+    None
 }
 
 /// Runs under these hash keys, with these words, over these files and sinks.
@@ -42,13 +50,11 @@ pub fn run_words<F: Files, O: Sink, E: Sink>(
 }
 
 /// A sink that takes at most so many bytes a write, and whose writes that are listed fail.
-pub fn sink(
-    alloc: Global,
-    fails: &[u64],
-    piece: usize,
-    room: usize,
-) -> Result<MemorySink, AllocError> {
-    Ok(MemorySink::new(alloc, fails, piece.max(1), room)?)
+pub fn sink(alloc: Global, fails: &[u64], piece: usize, room: usize) -> Option<MemorySink> {
+    match MemorySink::new(alloc, fails, piece.max(1), room) {
+        Ok(sink) => Some(sink),
+        Err(_) => None,
+    }
 }
 
 /// How a run ended, with what out and err took.

@@ -3,12 +3,22 @@
 use std::alloc::{AllocError, Global};
 use std::{fs, io, str};
 
+fn push_lines(alloc: Global, lines: &mut Vec<String>, text: &str) -> Result<(), AllocError> {
+    for line in text.lines() {
+        lines.push(String::from_str(alloc, line)?)?;
+    }
+    Ok(())
+}
+
 /// The lines of a file.
 pub fn read_lines(rt: &HostRuntime, path: &str) -> io::Result<Vec<String>> {
     let text = fs::read_to_string(rt, path)?;
     let mut lines = Vec::new(rt.alloc());
-    for line in text.as_str().lines() {
-        lines.push(String::from_str(rt.alloc(), line)?)?;
+    let are_pushed = push_lines(rt.alloc(), &mut lines, text.as_str());
+    drop(text);
+    if let Err(error) = are_pushed {
+        drop(lines);
+        return Err(error.into());
     }
     Ok(lines)
 }

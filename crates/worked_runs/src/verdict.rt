@@ -5,6 +5,7 @@ use crate::folder_files::FolderFiles;
 use crate::runs::{Ended, Ran, run_over, sink};
 use crate::spoken::Spoken;
 use cell_core::HashKeys;
+use qc_io::Files;
 use std::alloc::{AllocError, Global};
 use std::io;
 
@@ -66,6 +67,22 @@ fn said_of(alloc: Global, ran: &Ran, expected: &Expected) -> Result<String, Allo
     said_of_end(alloc, ran.ended, expected)
 }
 
+// Runs with the words of a folder, over files and into sinks of its own.
+fn run_folder<F: Files>(
+    alloc: Global,
+    keys: HashKeys,
+    files: &mut F,
+    expected: &Expected,
+) -> Option<Ran> {
+    let room = expected.room.unwrap_or(room_for(&expected.out));
+    let out = sink(alloc, &[], 4096, room)?;
+    let Some(err) = sink(alloc, &[], 4096, room_for(&expected.err)) else {
+        drop(out);
+        return None;
+    };
+    Some(run_over(alloc, keys, &expected.words, files, out, err))
+}
+
 // Runs in a folder under hash keys, and says whether that is as expected, or what isn't.
 fn run_in(
     rt: &HostRuntime,
@@ -75,22 +92,42 @@ fn run_in(
 ) -> Result<String, AllocError> {
     let alloc = rt.alloc();
     let mut files = FolderFiles::new(rt, alloc, folder, &expected.padded);
-    let room = expected.room.unwrap_or(room_for(&expected.out));
-    let out = sink(alloc, &[], 4096, room)?;
-    let err = sink(alloc, &[], 4096, room_for(&expected.err))?;
-    let ran = run_over(alloc, keys, &expected.words, &mut files, out, err);
+    let ran = run_folder(alloc, keys, &mut files, expected);
+    drop(files);
+    let Some(ran) = ran else {
+        return String::from_str(alloc, "found no memory for its sinks");
+    };
     let said = said_of(alloc, &ran, expected);
     drop(ran);
     said
+}
+
+// Gathers what a run is to write, and runs.
+fn judge_run(
+    rt: &HostRuntime,
+    keys: HashKeys,
+    folder: &str,
+    expected: &Expected,
+    spoken: &mut Spoken,
+) -> Result<String, AllocError> {
+    spoken.push(&expected.out, &expected.err)?;
+    run_in(rt, keys, folder, expected)
+}
+
+// The same with what the folder says.
+fn judge_folder(rt: &HostRuntime, folder: &str, spoken: &mut Spoken) -> io::Result<String> {
+    let keys = HashKeys::draw(rt)?;
+    let expected = Expected::read(rt, folder)?;
+    let said = judge_run(rt, keys, folder, &expected, spoken);
+    drop(expected);
+    Ok(said?)
 }
 
 /// Runs `qcube` in a folder of `runs`, under hash keys that are drawn for it, and gathers what it
 /// is to write. Says whether that is as expected, or what isn't.
 pub fn judge(rt: &HostRuntime, name: &str, spoken: &mut Spoken) -> io::Result<String> {
     let folder = format!(in rt.alloc(); "runs/{name}")?;
-    let expected = Expected::read(rt, folder.as_str())?;
-    spoken.push(&expected.out, &expected.err)?;
-    let keys = HashKeys::draw(rt)?;
-    let said = run_in(rt, keys, folder.as_str(), &expected)?;
-    Ok(said)
+    let said = judge_folder(rt, folder.as_str(), spoken);
+    drop(folder);
+    said
 }
