@@ -13,8 +13,8 @@ const SPREAD: u64 = 0x9e37_79b9_7f4a_7c15;
 
 /// The hash of a text: the value of a polynomial at a drawn multiplier, modulo a prime. Its
 /// coefficients are the text's bytes, each with 1 added. Two texts share a value under at most as
-/// many multipliers as the longer one has bytes (Carter and Wegman, 1979). So no file can be chosen
-/// whose texts collide.
+/// many multipliers as the longer one has bytes (Carter and Wegman, 1979). So whoever doesn't know
+/// the multiplier can hardly choose two texts that share a value.
 #[derive(Clone, Copy)]
 pub(crate) struct TextHasher {
     value: u32,
