@@ -10,8 +10,8 @@ use Rattle.class_builder.proofs.Prefixes.{prefix_less}
 use Rattle.qc_arena.specs.Map.{Arena}
 use Rattle.qc_arena.specs.RecordReaders.{record_at}
 use Rattle.build_trace.specs.Trace.{Act}
-use Rattle.build_acts.specs.Building.{IsBuilding, ActsComeNext, PerformsActs}
-use Rattle.build_acts.proofs.CallerLemmas.{cell_of_record}
+use Rattle.class_builder.specs.Building.{IsBuilding, ActsComeNext, PerformsActs}
+use Rattle.class_builder.proofs.ActSteps.{cell_of_record}
 use Rattle.class_builder.specs.Walk.{IsOnPath, node_on}
 use Rattle.class_builder.specs.declared.path.Path.{Path}
 

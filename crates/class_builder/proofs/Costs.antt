@@ -17,7 +17,7 @@ use Rattle.tree_laws.proofs.CallerLemmas.{entry_get, get_entry, some_same, sum_a
 use Rattle.build_trace.specs.Trace.{Act, Act.{Add, Label, Mark}, Put, adds_of, labels_of, put_of, puts_of}
 use Rattle.build_trace.specs.Follows.{cell_by}
 use Rattle.build_trace.proofs.CallerLemmas.{act_node}
-use Rattle.build_acts.specs.Building.{IsBuilding}
+use Rattle.class_builder.specs.Building.{IsBuilding}
 use Rattle.qc_arena.specs.Map.{Arena, Known, edges_in}
 use Rattle.class_builder.specs.Costs.{cost_of_acts, cost_of_building, size_of_acts}
 

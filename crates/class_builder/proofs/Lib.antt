@@ -8,3 +8,6 @@ mod Ways
 mod Notes
 mod Standing
 mod Costs
+mod Cuts
+mod Maps
+mod ActSteps

@@ -12,7 +12,7 @@ use Rattle.tree_laws.proofs.CallerLemmas.{cell_prefix-cell_prefix}
 use Rattle.build_trace.specs.Trace.{Act}
 use Rattle.build_trace.specs.Ready.{HasPath}
 use Rattle.build_trace.proofs.CallerLemmas.{entry_cell_prefix, go_down}
-use Rattle.build_acts.specs.Building.{IsBuilding}
+use Rattle.class_builder.specs.Building.{IsBuilding}
 use Rattle.qc_arena.specs.Map.{Arena, Known}
 use Rattle.qc_arena.specs.RecordReaders.{record_at, record_or}
 use Rattle.drill_links.specs.Way.{IsWay}

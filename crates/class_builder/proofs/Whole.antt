@@ -18,7 +18,7 @@ use Rattle.qc_arena.specs.Map.{Arena, is_open}
 use Rattle.build_trace.specs.Trace.{Act, Act.{Add}, acts, trace, adds_of}
 use Rattle.build_trace.specs.Follows.{Follows}
 use Rattle.build_trace.proofs.CallerLemmas.{follow_none, none_canonical, followed, adds_count}
-use Rattle.build_acts.specs.Building.{IsBuilding, ActsComeNext, PerformsActs}
+use Rattle.class_builder.specs.Building.{IsBuilding, ActsComeNext, PerformsActs}
 use Rattle.class_builder.specs.Walk.{IsOnPath, acts_from, node_on}
 use Rattle.class_builder.specs.declared.path.Path.{Path}
 

@@ -2,3 +2,4 @@ pub mod Walk
 pub mod PrefixNodes
 pub mod Costs
 pub mod Stands
+pub mod Building

@@ -6,7 +6,7 @@ use Rattle.base_table.specs.Places.{Places, named, rows_of}
 use Rattle.cube_laws.specs.Parting.{shared_by}
 use Rattle.build_trace.specs.Trace.{Act, Act.{Label}, part_acts}
 use Rattle.build_trace.specs.Walk.{same_prefix}
-use Rattle.build_acts.specs.Building.{PerformsActs, ActsComeNext}
+use Rattle.class_builder.specs.Building.{PerformsActs, ActsComeNext}
 use Rattle.qc_arena.specs.Map.{Arena, is_open}
 use Rattle.class_builder.specs.PrefixNodes.{ArePrefixNodes}
 use Rattle.class_builder.specs.Walk.{IsOnPath, acts_from}

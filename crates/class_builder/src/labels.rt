@@ -11,12 +11,12 @@ ghost use Rattle.class_builder.specs.PrefixNodes.{ArePrefixNodes};
 ghost use Rattle.class_builder.specs.Stands.{HasDone, StandsAtLink, StandsBefore, link_acts};
 
 use crate::Memory;
+use crate::acts::{add_child, set_link};
 use crate::builder::Builder;
 use crate::part::{ChildEdge, Group, Partition};
 use crate::path::Path;
 use crate::prefix_nodes::PrefixNodes;
 use crate::upper::shared_prefix;
-use build_acts::{add_child, set_link};
 use cell_core::NodeNo;
 use drill_links::descend;
 use qc_arena::ArenaRefused;

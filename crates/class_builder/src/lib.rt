@@ -1,6 +1,7 @@
 //! Builds the tree of a table's rows from scratch, by one walk.
 #![tactic(auto)]
 
+mod acts;
 mod builder;
 mod labels;
 mod part;
@@ -12,5 +13,6 @@ mod tree;
 mod upper;
 mod walk;
 
+pub use acts::{add_child, add_root, mark_class, set_link};
 pub use cube_defs::Memory;
 pub use tree::build_classes;

@@ -9,6 +9,7 @@ ghost use Rattle.class_builder.specs.Costs.{cost_of_building};
 ghost use Rattle.class_builder.specs.PrefixNodes.{ArePrefixNodes};
 ghost use Rattle.class_builder.specs.Stands.{IsFreshArena};
 
+use crate::acts::add_root;
 use crate::builder::Builder;
 use crate::part::Partition;
 use crate::path::Path;
@@ -17,7 +18,6 @@ use crate::prefix_nodes::PrefixNodes;
 use crate::upper::closure_of_all;
 use crate::walk::drill;
 use base_table::Table;
-use build_acts::add_root;
 use cell_closure::{SomeRows, SortedRows};
 use cell_core::{Code, Steps};
 use cube_laws::same_rows::lists_of_cells_in_order;

@@ -12,13 +12,13 @@ ghost use Rattle.class_builder.specs.Stands.{HasDone, StandsAt, StandsBefore, gr
 ghost use Rattle.class_builder.specs.Costs.{cost_of_acts};
 
 use crate::Memory;
+use crate::acts::mark_class;
 use crate::builder::Builder;
 use crate::labels::{add_prefix_node, link_part};
 use crate::part::{ChildEdge, Group, Partition};
 use crate::path::Path;
 use crate::total::total;
 use crate::upper::{closure_of_part, first_new_value};
-use build_acts::mark_class;
 use cell_closure::{Parts, TableRows};
 use cell_core::{Entry, NodeNo};
 use qc_arena::ArenaRefused;

@@ -5,8 +5,8 @@ ghost use Rattle.cube_defs.specs.Tree.{cell_at};
 ghost use Rattle.qc_arena.specs.Map.{is_open};
 
 use aggregates::Agg;
-use build_acts::{add_child, add_root, mark_class, set_link};
 use cell_core::{Code, NodeNo, Steps};
+use class_builder::{add_child, add_root, mark_class, set_link};
 use qc_arena::{Nodes, QcArena};
 use std::alloc::Global;
 use std::sync::ledger::Ledger;

@@ -3,7 +3,7 @@ use Rattle.cube_defs.specs.Cell.{cell_prefix}
 use Rattle.cube_defs.specs.Tree.{cell_at}
 use Rattle.base_table.specs.Places.{rows_of}
 use Rattle.build_trace.specs.Trace.{Act.{Add, Label}}
-use Rattle.build_acts.specs.Building.{PerformsActs, ActsComeNext}
+use Rattle.class_builder.specs.Building.{PerformsActs, ActsComeNext}
 use Rattle.class_builder.proofs.Prefixes.{prefix_value}
 use Rattle.class_builder.proofs.Building.{err_again, prefix_depth, on_end, path_on, path_stays}
 use Rattle.class_builder.proofs.Notes.{noted_stay}

@@ -8,7 +8,7 @@ use Rattle.tree_laws.proofs.CallerLemmas.{there}
 use Rattle.base_table.specs.Places.{named, rows_of}
 use Rattle.cube_laws.specs.Parting.{shared_by}
 use Rattle.build_trace.specs.Trace.{Act.{Label}}
-use Rattle.build_acts.specs.Building.{PerformsActs}
+use Rattle.class_builder.specs.Building.{PerformsActs}
 use Rattle.qc_arena.specs.Map.{Arena, CanChange}
 use Rattle.class_builder.proofs.Building.{on_end}
 use Rattle.class_builder.proofs.Notes.{noted_stay}

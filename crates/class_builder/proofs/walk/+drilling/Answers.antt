@@ -11,7 +11,7 @@ use Rattle.cube_laws.specs.Parting.{shared_by}
 use Rattle.tree_laws.proofs.CallerLemmas as lists
 use Rattle.cell_closure.proofs.CallerLemmas.{There, there, recursion_all, shared_there}
 use Rattle.build_trace.specs.Trace.{Act.{Mark}, acts_at, part_acts}
-use Rattle.build_acts.specs.Building.{PerformsActs}
+use Rattle.class_builder.specs.Building.{PerformsActs}
 use Rattle.cell_core.specs.Entry.{IsCode}
 use Rattle.qc_arena.specs.Map.{Arena, frame}
 use Rattle.class_builder.specs.declared.prefix_nodes.PrefixNodes.{PrefixNodes}

@@ -7,7 +7,7 @@ ghost use Rattle.cube_defs.specs.Rows.{Row};
 ghost use Rattle.cube_defs.specs.Tree.{cell_at};
 ghost use Rattle.build_trace.specs.Trace.{Act.{Label}};
 ghost use Rattle.qc_arena.specs.Map.{CanChange, frame};
-ghost use Rattle.build_acts.specs.Building.{PerformsActs};
+ghost use Rattle.class_builder.specs.Building.{PerformsActs};
 
 use crate::Memory;
 use cell_core::{Code, NodeNo, Steps};

@@ -5,9 +5,9 @@ use Rattle.cube_defs.specs.Tree.{Edge}
 use Rattle.build_trace.specs.Trace.Act.{Label}
 use Rattle.qc_arena.specs.Edges.{with_edge}
 use Rattle.qc_arena.specs.Map.{with_forced}
-use Rattle.build_acts.specs.Building.{PerformsActs}
-use Rattle.build_acts.proofs.Steps.{does_label}
-use Rattle.build_acts.proofs.labels.put_label.Goals as goal
+use Rattle.class_builder.specs.Building.{PerformsActs}
+use Rattle.class_builder.proofs.ActSteps.{does_label}
+use Rattle.class_builder.proofs.acts.labels.put_label.Goals as goal
 use Rattle.tree_laws.proofs.CallerLemmas.{some_there}
 
 pub returns-then-is_forced-clause-made : goal.returns-then-is_forced-clause-made

@@ -18,11 +18,11 @@ use Rattle.build_trace.specs.Follows.{RecordLookup, Follows, cell_by}
 use Rattle.qc_arena.specs.Map.{Arena, Known, bare, frame, is_open, is_touched, with_class}
 use Rattle.qc_arena.specs.RecordReaders.{record_at, record_or}
 use Rattle.qc_arena.specs.Edges.{put_edge}
-use Rattle.build_acts.specs.Building.{IsBuilding, ActsComeNext, PerformsActs}
+use Rattle.class_builder.specs.Building.{IsBuilding, ActsComeNext, PerformsActs}
 use Rattle.build_trace.proofs.CallerLemmas.{adds_append, IsPut, follow_add, follow_label, follow_mark, add_fresh, add_bare, more_nodes}
 use Rattle.build_trace.proofs.CallerLemmas.{put_last}
-use Rattle.build_acts.proofs.Cuts.{cut-with_value, cut-root}
-use Rattle.build_acts.proofs.Maps.{put_at, len_more, len_same, put_edge-last}
+use Rattle.class_builder.proofs.Cuts.{cut-with_value, cut-root}
+use Rattle.class_builder.proofs.Maps.{put_at, len_more, len_same, put_edge-last}
 use Rattle.tree_laws.proofs.CallerLemmas.{some_same}
 
 -- b has this record at the number, and else those of a

@@ -8,9 +8,9 @@ ghost use Rattle.cube_defs.specs.Tree.{cell_at, nodes};
 ghost use Rattle.build_trace.specs.Trace.{Act.{Add, Label}};
 ghost use Rattle.qc_arena.specs.Map.{CanChange, frame, is_open};
 ghost use Rattle.qc_arena.specs.RecordReaders.{record_at};
-ghost use Rattle.build_acts.specs.Building.{PerformsActs, ActsComeNext};
+ghost use Rattle.class_builder.specs.Building.{PerformsActs, ActsComeNext};
 
-use crate::labels::put_label;
+use crate::acts::labels::put_label;
 use cell_core::{Code, NodeNo, Steps};
 use qc_arena::{ArenaRefused, QcArena};
 use std::sync::ledger::Ledger;

@@ -3,8 +3,8 @@ use Rattle.std.specs.FinMap as map
 use Rattle.std.specs.Option.{option_map}
 use Rattle.aggregates.specs.Views.{agg_in}
 use Rattle.qc_arena.specs.Map.{with_class}
-use Rattle.build_acts.proofs.Steps.{does_mark}
-use Rattle.build_acts.proofs.classes.mark_class.Goals as goal
+use Rattle.class_builder.proofs.ActSteps.{does_mark}
+use Rattle.class_builder.proofs.acts.classes.mark_class.Goals as goal
 use Rattle.tree_laws.proofs.CallerLemmas.{some_there}
 
 pub returns-clause-made : goal.returns-clause-made

@@ -5,10 +5,10 @@ use Rattle.cube_defs.specs.Rows.{Row}
 use Rattle.cube_defs.specs.Tree.{cell_at}
 use Rattle.build_trace.specs.Trace.Act.{Add, Label}
 use Rattle.qc_arena.specs.Map.{Known, bare}
-use Rattle.build_acts.specs.Building.{PerformsActs}
-use Rattle.build_acts.proofs.Steps.{cell_of_record, does_both, does_child, more_next}
-use Rattle.build_acts.proofs.nodes.add_child.Given as given
-use Rattle.build_acts.proofs.nodes.add_child.Goals as goal
+use Rattle.class_builder.specs.Building.{PerformsActs}
+use Rattle.class_builder.proofs.ActSteps.{cell_of_record, does_both, does_child, more_next}
+use Rattle.class_builder.proofs.acts.nodes.add_child.Given as given
+use Rattle.class_builder.proofs.acts.nodes.add_child.Goals as goal
 
 -- the first act
 added : (g : given.Over) (c : goal.In-Ok-put_label g) (measures : ℕ) (rows : List (Row ℕ)) (f : Cell ℕ)

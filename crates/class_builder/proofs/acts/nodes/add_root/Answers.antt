@@ -1,6 +1,6 @@
 use Rattle.std.proofs.Common.{None, [], replicate}
-use Rattle.build_acts.proofs.Steps.{more_next, root_made}
-use Rattle.build_acts.proofs.nodes.add_root.Goals as goal
+use Rattle.class_builder.proofs.ActSteps.{more_next, root_made}
+use Rattle.class_builder.proofs.acts.nodes.add_root.Goals as goal
 
 pub returns-clause-made : goal.returns-clause-made
 returns-clause-made g c =

@@ -1,4 +1,0 @@
-mod Cuts
-mod Maps
-pub mod Steps
-pub mod CallerLemmas
