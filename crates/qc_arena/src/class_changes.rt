@@ -1,19 +1,20 @@
 // The classes that were added and removed since `begin`.
-ghost use Rattle.std.specs.Prelude.{IfOk, None, false, if◌then◌else◌, length, slice_get, ℕ, ◌+◌, ◌<◌, ◌≡◌, ◌≤◌};
-ghost use Rattle.std.specs.Option.{option_map};
+ghost use Rattle.std.specs.Prelude.{IfOk, None, Some, false, length, not, slice_get, true, ℕ, ◌+◌, ◌<◌, ◌≡◌, ◌≢◌, ◌≤◌};
+ghost use Rattle.std.specs.Option.{option_copied, option_map};
 ghost use Rattle.std.specs.Vec.{vec_capacity};
 ghost use Rattle.aggregates.specs.Views.{agg_in};
 ghost use Rattle.slab.specs.Slab as slots;
 ghost use Rattle.qc_arena.specs.Entries.{IsOnce};
-ghost use Rattle.qc_arena.specs.Changes.{AddsNew, AreNew, class_in, from_side, to_side};
+ghost use Rattle.qc_arena.specs.Changes.{AddsNew, AreNew, class_in, class_on_side, count_in, from_side, to_side};
 ghost use Rattle.qc_arena.specs.Inside.{image_or, join};
 ghost use Rattle.qc_arena.specs.Parts.{IsStored};
 
 use crate::Memory;
 use crate::counted::record_in;
+use crate::image::Record;
 use crate::measure_columns::MeasureColumns;
 use crate::place::NodeSlot;
-use crate::same::same_class;
+use crate::same::same_agg;
 use crate::slots::class_at;
 use crate::touched::Touched;
 use aggregates::Agg;
@@ -32,33 +33,104 @@ fn class_in_place(nodes: &Slab<NodeSlot>, parts: &MeasureColumns, place: u32) ->
     }
 }
 
-// Before and now for added classes, and now and before for removed ones.
-fn sides<'a>(
-    added: bool,
-    was: &'a Option<Agg>,
-    now: &'a Option<Agg>,
-) -> (&'a Option<Agg>, &'a Option<Agg>)
-    ensures from { result.0.now ≡ (if added then was.now else now.now) }
-    ensures to { result.1.now ≡ (if added then now.now else was.now) }
+// COUNT of the class of a place. 0 if it has none.
+fn count_in_place(nodes: &Slab<NodeSlot>, place: u32) -> u32
+    ensures { result ≡ count_in (class_in (join (slots.get nodes.now place))) }
 {
-    if added { (was, now) } else { (now, was) }
+    match record_in(nodes, place as usize) {
+        Some(record) => record.count(),
+        None => 0,
+    }
 }
 
-// Appends the pair of a node and its class, if the class differs from the other side's. There is
-// room for it.
-fn add_new(pairs: &mut Vec<(NodeNo, Agg)>, node: u32, from: &Option<Agg>, to: &Option<Agg>)
-    requires { length pairs.old.items < vec_capacity pairs.old }
-    ensures adds { AddsNew node (option_map agg_in from.now)
-        (option_map agg_in to.now) pairs.old.items pairs.new.items }
+// The class of a touched node, if it has one: now, or in its before-image.
+fn class_on_side(
+    nodes: &Slab<NodeSlot>,
+    parts: &MeasureColumns,
+    node: u32,
+    was: Option<&Record>,
+    now: bool,
+) -> Option<Agg>
+    requires { IsStored nodes.now parts.now }
+    ensures { option_map agg_in result
+        ≡ class_on_side (option_copied was.entry) (join (slots.get nodes.now node)) now }
+{
+    if now {
+        return class_in_place(nodes, parts, node);
+    }
+    match was {
+        Some(record) => record.class(),
+        None => None,
+    }
+}
+
+// COUNT of the class of a touched node: now, or in its before-image. 0 if it has none.
+fn count_on_side(nodes: &Slab<NodeSlot>, node: u32, was: Option<&Record>, now: bool) -> u32
+    ensures { result
+        ≡ count_in (class_on_side (option_copied was.entry) (join (slots.get nodes.now node)) now) }
+{
+    if now {
+        return count_in_place(nodes, node);
+    }
+    match was {
+        Some(record) => record.count(),
+        None => 0,
+    }
+}
+
+// Whether this is the class of a touched node: now, or in its before-image. Equal classes have one
+// COUNT. So the other class is built only if its COUNT is this one, which is rare after a batch.
+fn is_on_side(
+    class: &Agg,
+    nodes: &Slab<NodeSlot>,
+    parts: &MeasureColumns,
+    node: u32,
+    was: Option<&Record>,
+    now: bool,
+) -> bool
+    requires { IsStored nodes.now parts.now }
+    ensures same { result ≡ true →
+        class_on_side (option_copied was.entry) (join (slots.get nodes.now node)) now
+        ≡ Some (agg_in class.now) }
+    ensures other { result ≡ false →
+        class_on_side (option_copied was.entry) (join (slots.get nodes.now node)) now
+        ≢ Some (agg_in class.now) }
+{
+    if count_on_side(nodes, node, was, now) != class.count {
+        return false;
+    }
+    match class_on_side(nodes, parts, node, was, now) {
+        Some(other) => same_agg(&other, class),
+        None => false,
+    }
+}
+
+// Appends the pair of a touched node and its class now, if it had another one or none before. For
+// removed classes, before and now are the other way round. There is room for the pair.
+fn add_new(
+    pairs: &mut Vec<(NodeNo, Agg)>,
+    nodes: &Slab<NodeSlot>,
+    parts: &MeasureColumns,
+    node: u32,
+    was: Option<&Record>,
+    added: bool,
+)
+    requires room { length pairs.old.items < vec_capacity pairs.old }
+    requires stored { IsStored nodes.now parts.now }
+    ensures adds { AddsNew node
+        (class_on_side (option_copied was.entry) (join (slots.get nodes.now node)) (not added))
+        (class_on_side (option_copied was.entry) (join (slots.get nodes.now node)) added)
+        pairs.old.items pairs.new.items }
     ensures few { length pairs.new.items ≤ length pairs.old.items + 1 }
     ensures room { vec_capacity pairs.new ≡ vec_capacity pairs.old }
 {
-    if same_class(from, to) {
-        return;
-    }
-    match to {
+    match class_on_side(nodes, parts, node, was, added) {
         None => {}
-        Some(agg) => pairs.push_reserved((NodeNo(node), *agg)),
+        Some(agg) => {
+            if !is_on_side(&agg, nodes, parts, node, was, !added) {
+                pairs.push_reserved((NodeNo(node), agg));
+            }
+        }
     }
 }
 
@@ -98,9 +170,7 @@ pub(crate) fn changed(
     };
     'images: for k in 0..count {
         let (node, was) = images.at(k);
-        let now = class_in_place(nodes, parts, node);
-        let (from, to) = sides(added, &was, &now);
-        add_new(&mut pairs, node, from, to);
+        add_new(&mut pairs, nodes, parts, node, was, added);
     }
     Ok(pairs)
 }

@@ -6,6 +6,7 @@ ghost use Rattle.std.specs.Ordering.{eq_by_cmp, nat_cmp};
 ghost use Rattle.aggregates.specs.Views.{agg_in};
 ghost use Rattle.cube_defs.specs.Cell.{depth, with_value};
 ghost use Rattle.tree_laws.specs.Walk.{last_label, target_at};
+ghost use Rattle.qc_arena.specs.Changes.{count_in};
 ghost use Rattle.qc_arena.specs.Edges.{edge_in, rises, with_edge, without_edge};
 ghost use Rattle.qc_arena.specs.Map.{bare, with_class, with_forced};
 ghost use Rattle.qc_arena.specs.Resized.{resized};
@@ -308,6 +309,13 @@ impl NodeRecord {
         ensures { result ≡ is_some self.now.node.class }
     {
         self.count != 0
+    }
+
+    // COUNT. 0 if the node is no class.
+    pub(crate) fn count(&self) -> u32
+        ensures { result ≡ count_in self.now.node.class }
+    {
+        self.count
     }
 
     // COUNT and the number of measures. None if the node is no class.

@@ -1,6 +1,5 @@
-// Whether two classes have the same aggregate.
+// Comparing aggregates.
 ghost use Rattle.std.specs.Prelude.{false, length, slice_index_or, true, ℕ, ◌<◌, ◌≡◌, ◌≢◌, ◌≤◌};
-ghost use Rattle.std.specs.Option.{option_map};
 ghost use Rattle.aggregates.specs.Bounds.{zero_part};
 ghost use Rattle.aggregates.specs.Views.{agg_in, part_in};
 
@@ -36,7 +35,8 @@ fn same_parts(
     true
 }
 
-fn same_agg(a: &Agg, b: &Agg) -> bool
+/// Whether two classes have the same aggregate.
+pub(crate) fn same_agg(a: &Agg, b: &Agg) -> bool
     ensures same { result ≡ true → agg_in a.now ≡ agg_in b.now }
     ensures other { result ≡ false → agg_in a.now ≢ agg_in b.now }
 {
@@ -48,18 +48,4 @@ fn same_agg(a: &Agg, b: &Agg) -> bool
         return false;
     }
     same
-}
-
-/// Whether both are no classes, or classes with the same aggregate.
-pub(crate) fn same_class(a: &Option<Agg>, b: &Option<Agg>) -> bool
-    ensures same { result ≡ true → option_map agg_in a.now ≡ option_map agg_in b.now }
-    ensures other { result ≡ false → option_map agg_in a.now ≢ option_map agg_in b.now }
-{
-    match a {
-        None => b.is_none(),
-        Some(one) => match b {
-            None => false,
-            Some(two) => same_agg(one, two),
-        },
-    }
 }
