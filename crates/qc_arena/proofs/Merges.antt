@@ -4,7 +4,7 @@ use Rattle.std.proofs.Common.{List, [], ◌∷◌, ◌++◌, length, length-appe
 use Rattle.std.proofs.Common.{inr, true≢false}
 use Rattle.std.proofs.lemmas.Bool.{cases_lt, cond-true, cond-false, eq-eqb}
 use Rattle.std.proofs.lemmas.Bool.Decides.{eqb_tells}
-use Rattle.std.proofs.lemmas.List.{append-nil, get_or_append_left, length-map, nil_from_length}
+use Rattle.std.proofs.lemmas.List.{append-nil, get_or-map, get_or_append_left, length-map, nil_from_length}
 use Rattle.std.specs.Prelude.{if◌then◌else◌}
 use Rattle.std.specs.List.Sorted.{IsNonDecreasingBy, IsSorted, IsSortedByKey}
 use Rattle.std.proofs.lemmas.List.Sorted.{IsNonDecreasingBy-from_sort}
@@ -345,6 +345,32 @@ none_left lists none = sym (lengths_in lists) ∙ nothing_in (all_in lists) none
 
 pub none_listed : (lists : SortedImages) → all_in lists ≡ [] → count_in lists ≡ 0
 none_listed lists none = sym (lengths_in lists) ∙ ap length none
+
+-- where nothing is left
+pub all_merged : (merged older later : SortedImages) (images : ImageMap) → count_in older + count_in later ≡ 0
+    → images ≡ map.from_entries (all_in merged)
+    → images ≡ map.from_entries (all_in merged ++ (all_in older ++ all_in later))
+all_merged merged older later images none is =
+    let one : all_in older ≡ [] = nil_from_length (all_in older) (omega (arith, lengths_in older, none)) in
+    let other : all_in later ≡ [] = nil_from_length (all_in later) (omega (arith, lengths_in later, none)) in
+    let same : all_in merged ++ (all_in older ++ all_in later) ≡ all_in merged
+    = ap₂ (λ (x y : List (ℕ × Option Known)). all_in merged ++ (x ++ y)) one other ∙ append-nil (all_in merged) in
+    subst (λ (es : List (ℕ × Option Known)). images ≡ map.from_entries es) (sym same) is
+
+-- the last of some numbers
+pub new_end : (ks : List ℕ) (n : ℕ) → 0 < length ks → n ≡ get_or ks (length ks - 1) n → IsEnd (all_new ks) (n + 1)
+new_end ks n some is =
+    let entry : ℕ → ℕ × Option Known = λ k. (k, None) in
+    let long : length (all_new ks) ≡ length ks = length-map ks entry in
+    record {
+      none = λ e. absurd (omega (arith, e));
+      some = λ d l. (
+        omega (arith, some, long),
+        ap (λ (i : ℕ). entry_number (get_or (all_new ks) (i - 1) d) + 1) long
+            ∙ ap (λ (e : ℕ × Option Known). e.0 + 1) (get_or-map entry ks (length ks - 1) n d (omega (arith, some)))
+            ∙ ap (λ (k : ℕ). k + 1) (sym is),
+      );
+    }
 
 -- lists that are sorted rise
 new_number : (ks : List ℕ) (i : ℕ) (d : ℕ × Option Known) → entry_number (get_or (all_new ks) i d) ≡ get_or ks i d.0

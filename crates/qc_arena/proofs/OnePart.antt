@@ -1,5 +1,5 @@
--- Parts of which only the first may be there.
-use Rattle.std.proofs.Common.{◌≡◌, ◌≤◌, ℕ, List, [], ◌∷◌, arith, get_or, length}
+-- The parts of a list that has one for each measure.
+use Rattle.std.proofs.Common.{◌≡◌, ◌≤◌, ℕ, List, [], ◌∷◌, arith, get_or, length, refl}
 use Rattle.aggregates.specs.Bounds.{IsZero, zero_part}
 use Rattle.aggregates.specs.declared.agg.Part.{Part}
 use Rattle.cube_defs.specs.declared.limits.TheConstants.{MAX_MEASURES}
@@ -17,3 +17,13 @@ one_part (a ∷ b ∷ c ∷ []) l z = absurd (omega arith)
 one_part (a ∷ b ∷ c ∷ d ∷ []) l z = λ j.
     a ∷ is_zero b (z 1 (omega arith)) j ∷ is_zero c (z 2 (omega arith)) j ∷ is_zero d (z 3 (omega arith)) j ∷ []
 one_part (a ∷ b ∷ c ∷ d ∷ e ∷ rest) l z = absurd (omega arith)
+
+pub four_parts : (parts : List Part) → length parts ≡ MAX_MEASURES
+    → parts ≡ get_or parts 0 zero_part ∷ get_or parts 1 zero_part ∷ get_or parts 2 zero_part
+    ∷ get_or parts 3 zero_part ∷ []
+four_parts [] l = absurd (omega arith)
+four_parts (a ∷ []) l = absurd (omega arith)
+four_parts (a ∷ b ∷ []) l = absurd (omega arith)
+four_parts (a ∷ b ∷ c ∷ []) l = absurd (omega arith)
+four_parts (a ∷ b ∷ c ∷ d ∷ []) l = refl
+four_parts (a ∷ b ∷ c ∷ d ∷ e ∷ rest) l = absurd (omega arith)

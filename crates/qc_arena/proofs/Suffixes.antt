@@ -1,10 +1,11 @@
 -- Entries from a place on.
-use Rattle.std.proofs.Common.{◌≡◌, ℕ, zero, suc, ◌+◌, ◌≤◌, Bool, false, List, [], ◌∷◌, Option, Some, None, is_some, length, get_or}
+use Rattle.std.proofs.Common.{◌≡◌, ℕ, zero, suc, ◌+◌, ◌<◌, ◌≤◌, Bool, false, List, [], ◌∷◌, Option, Some, None, is_some, length, get_or}
 use Rattle.std.proofs.Common.{slice_get, nat_eq, refl, sym, ap, subst, ◌∙◌, arith, inl, inr}
-use Rattle.std.specs.Prelude.{if◌then◌else◌}
+use Rattle.std.specs.Prelude.{IfSome, if◌then◌else◌}
 use Rattle.std.proofs.lemmas.Bool.{cond-true, cond-false}
 use Rattle.std.proofs.lemmas.Bool.Decides.{eqb_tells}
 use Rattle.std.specs.Map.{lookup}
+use Rattle.cube_laws.proofs.CallerLemmas.{item_at, some_of}
 use Rattle.qc_arena.specs.Entries.{IsMarked, IsOnce, all_new}
 use Rattle.qc_arena.specs.Map.{Known}
 
@@ -46,6 +47,11 @@ look_less es k e q h = ap (lookup (nat_eq q)) (here_after es k e h)
 pub look_gone : {X : Type 0} (es : List (ℕ × X)) (k : ℕ) (e : ℕ × X) → IsOnce es → slice_get es k ≡ Some e
     → lookup (nat_eq e.0) (suffix_from (k + 1) es) ≡ None
 look_gone es k e once h = (subst IsOnce (here_after es k e h) (once_after k es once)).0
+
+-- the entry at a place whose number is told
+pub numbered : {X : Type 0} (es : List (ℕ × X)) (k n : ℕ) → k < length es → IfSome (slice_get es k) (λ e. n ≡ e.0)
+    → (e : ℕ × X) × (slice_get es k ≡ Some e) × (n ≡ e.0)
+numbered es k n l told = let e = item_at es k l in (e.0, e.1, some_of (λ e. n ≡ e.0) _ e.0 e.1 told)
 
 pub length-all_new : (ks : List ℕ) → length (all_new ks) ≡ length ks
 length-all_new [] = refl

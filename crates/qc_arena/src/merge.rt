@@ -1,14 +1,13 @@
 // The merge of two lists of before-images, from the largest number down.
 ghost use Rattle.std.specs.Prelude.{[], length, ℕ, ◌++◌, ◌+◌, ◌<◌, ◌≡◌, ◌≤◌};
 ghost use Rattle.std.specs.Bool.{OnFalse, OnTrue};
-ghost use Rattle.std.specs.Option.{option_or};
 ghost use Rattle.std.specs.FinMap as map;
 ghost use Rattle.std.specs.Vec.{vec_capacity};
 ghost use Rattle.qc_arena.specs.Entries.{IsOnce};
 ghost use Rattle.qc_arena.specs.Merges.{AreRising, IsMerge, all_in, count_in};
 
 use crate::images::Images;
-use crate::sorted_images::{Entry, SortedImages, larger};
+use crate::sorted_images::{SortedImages, larger};
 use crate::unsorted_images::UnsortedImages;
 use std::marker::Model;
 
@@ -39,16 +38,6 @@ impl Model for Merge {
     ) };
 
     ghost invariant = { λ m. IsMerge m.older m.later m.merged };
-}
-
-// The earlier of two entries, if there is one.
-fn first(older: Option<Entry>, later: Option<Entry>) -> Option<Entry>
-    ensures { result ≡ option_or older later }
-{
-    match older {
-        Some(entry) => Some(entry),
-        None => later,
-    }
 }
 
 impl Merge {
@@ -83,7 +72,7 @@ impl Merge {
         let node = (end - 1) as u32;
         let older = self.older.take(node);
         let later = self.later.take(node);
-        if let Some(entry) = first(older, later) {
+        if let Some(entry) = older.or(later) {
             self.merged.put(node, entry);
         }
         true

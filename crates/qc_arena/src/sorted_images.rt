@@ -62,8 +62,10 @@ fn pop_changed(changed: &mut Vec<(u32, Image)>, node: u32) -> Option<Image>
     if changed_end(changed) != node as u64 + 1 {
         return None;
     }
-    let (_, image) = changed.pop()?;
-    Some(image)
+    match changed.pop() {
+        Some((_, image)) => Some(image),
+        None => None,
+    }
 }
 
 // Takes out the last number, if it is this one.
@@ -109,7 +111,10 @@ impl SortedImages {
         };
         match Vec::with_capacity(alloc, changed) {
             Ok(changed) => Ok(SortedImages { changed, added }),
-            Err(error) => Err(error),
+            Err(error) => {
+                drop(added);
+                Err(error)
+            }
         }
     }
 

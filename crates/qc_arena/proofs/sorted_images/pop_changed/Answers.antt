@@ -10,7 +10,7 @@ returns-then-changed_end-node-clause-none c
           c.changed_end.ensures.end c.requires.most c.if-changed_end-node.true,
     )
 
-pub returns-clause-some : goal.returns-clause-some
-returns-clause-some c =
-    last_is c.args.changed.now.items c.pop.new.self.items c.in_ok-image.field-0-0 c.in_ok-image.image c.args.node
-    c.changed_end.result c.changed_end.ensures.end c.if-changed_end-node.false c.in_ok-image.ensures.items
+pub returns-in-Some-clause-some : goal.returns-in-Some-clause-some
+returns-in-Some-clause-some c =
+    last_is c.args.changed.now.items c.pop.new.self.items c.in-Some.field-0-0 c.in-Some.image c.args.node
+    c.changed_end.result c.changed_end.ensures.end c.if-changed_end-node.false c.in-Some.ensures.items

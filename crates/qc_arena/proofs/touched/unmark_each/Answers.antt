@@ -2,23 +2,21 @@ use Rattle.std.proofs.Common.{◌++◌, ◌≡◌, ◌∙◌, List, Option, ap, 
 use Rattle.std.specs.Map.{lookup}
 use Rattle.qc_arena.specs.Entries.{all_new}
 use Rattle.qc_arena.specs.Map.{Known}
-use Rattle.qc_arena.proofs.Suffixes.{length-all_new, marked_after, none_behind}
+use Rattle.qc_arena.proofs.Suffixes.{length-all_new, marked_after, none_behind, numbered}
 use Rattle.qc_arena.proofs.touched.unmark_each.Goals as goal
-use Rattle.cube_laws.proofs.CallerLemmas.{item_at, some_of}
 
 pub entries-preserved : goal.entries-preserved
 entries-preserved c =
     let es : List (ℕ × Option Known) = c.args.changed.now.items ++ all_new c.args.added.now.items in
-    let e = item_at es c.entries.k
+    let e = numbered es c.entries.k c.number_at.result
     (omega (
       arith,
       length-append c.args.changed.now.items (all_new c.args.added.now.items),
       length-all_new c.args.added.now.items,
       c.entries-test.true,
-    )) in
+    )) c.number_at.ensures in
     marked_after es c.entries.touched.items c.unmark.new.touched.items c.entries.k c.number_at.result e.0 e.1
-    (some_of (λ (x : ℕ × Option Known). c.number_at.result ≡ x.0) _ e.0 e.1 c.number_at.ensures) c.entries.invariant
-    c.unmark.ensures
+    e.2 c.entries.invariant c.unmark.ensures
 
 pub returns : goal.returns
 returns c =

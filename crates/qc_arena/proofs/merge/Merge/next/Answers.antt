@@ -15,7 +15,7 @@ returns-then-end-eq0-clause-done c =
 pub put-requires-clause-none : goal.put-requires-clause-none
 put-requires-clause-none c =
     let m = c.self.inside in
-    let is = sym c.first.ensures ∙ c.in-Some.is in
+    let is = sym c.or.ensures ∙ c.in-Some.is in
     not_merged (all_in m.merged) (all_in m.older ++ all_in m.later) (c.larger-end.result - 1)
     (entry_image c.in-Some.entry) c.self.invariant.apart
     (said_first c.take-older.result c.take-later.result c.in-Some.entry (all_in m.older) (all_in m.later)
@@ -25,7 +25,7 @@ pub invariant_of-self : goal.invariant_of-self
 invariant_of-self c =
     let m = c.self.inside in
     let node = c.larger-end.result - 1 in
-    let is = sym c.first.ensures ∙ c.in-Some.is in
+    let is = sym c.or.ensures ∙ c.in-Some.is in
     let changed : changed_in (Some c.in-Some.entry) ≤ changed_in c.take-older.result + changed_in c.take-later.result =
     subst (λ o. changed_in o ≤ changed_in c.take-older.result + changed_in c.take-later.result) is
     (few_changed c.take-older.result c.take-later.result) in
@@ -66,7 +66,7 @@ pub returns-in-Some-clause-same : goal.returns-in-Some-clause-same
 returns-in-Some-clause-same c =
     let m = c.self.inside in
     let node = c.larger-end.result - 1 in
-    let is = sym c.first.ensures ∙ c.in-Some.is in
+    let is = sym c.or.ensures ∙ c.in-Some.is in
     let value = said_first c.take-older.result c.take-later.result c.in-Some.entry (all_in m.older)
     (all_in m.later) node is c.take-older.ensures.took c.take-later.ensures.took in
     let none = not_merged (all_in m.merged) (all_in m.older ++ all_in m.later) node
