@@ -1,5 +1,6 @@
-use Rattle.std.proofs.Common.{ap, sym, ◌∙◌, ◌++◌}
-use Rattle.qc_arena.specs.Entries.{all_new}
+use Rattle.std.proofs.Common.{List, Option, ap, arith, length, length-append, subst, sym, ℕ, ◌∙◌, ◌++◌, ◌≡◌}
+use Rattle.qc_arena.specs.Entries.{IsOnce, all_new}
+use Rattle.qc_arena.specs.Map.{Known}
 use Rattle.qc_arena.specs.Merges.{all_in}
 use Rattle.qc_arena.proofs.Looked.{none_before}
 use Rattle.qc_arena.proofs.Merges.{first_once, first_rest, first_rise, first_took, none_behind, none_rest, none_took, second_once}
@@ -76,3 +77,47 @@ returns-clause-rest c =
     none_rest c.args.node (all_in m) (c.pop_changed.new.changed.items ++ all_new c.pop_added.new.added.items)
     (none_took c.args.node m.changed.items (all_new m.added.items) c.in_default.ensures.none.1
     c.if-pop_added.ensures.none.1) same
+
+pub pop_changed-requires-clause-rising : goal.pop_changed-requires-clause-rising
+pop_changed-requires-clause-rising c = c.requires.rising.changed_rise
+
+pub pop_added-requires-clause-rising : goal.pop_added-requires-clause-rising
+pop_added-requires-clause-rising c = c.requires.rising.added_rise
+
+pub returns-in-Some-clause-changed : goal.returns-in-Some-clause-changed
+returns-in-Some-clause-changed c = ap length c.in-Some.ensures.some ∙ length-append c.pop_changed.new.changed.items _
+
+pub returns-in-Some-clause-added : goal.returns-in-Some-clause-added
+returns-in-Some-clause-added c = omega arith
+
+pub returns-then-pop_added-clause-changed : goal.returns-then-pop_added-clause-changed
+returns-then-pop_added-clause-changed c =
+    let same = ap length c.in_default.ensures.none.0 in
+    omega (arith, same)
+
+pub returns-then-pop_added-clause-added : goal.returns-then-pop_added-clause-added
+returns-then-pop_added-clause-added c = ap length c.if-pop_added.ensures.some
+    ∙ length-append c.pop_added.new.added.items _
+
+pub returns-clause-rising : goal.returns-clause-rising
+returns-clause-rising c =
+    let m = c.args.self.now in
+    let changed = c.in_default.ensures.none.0 in
+    let added = c.if-pop_added.ensures.none.0 in
+    let same : all_in m ≡ c.pop_changed.new.changed.items ++ all_new c.pop_added.new.added.items
+    = sym (ap (λ l. l ++ all_new c.pop_added.new.added.items) changed ∙ ap (λ l. m.changed.items ++ all_new l) added) in
+    record {
+      once = subst (λ (l : List (ℕ × Option Known)). IsOnce l) same c.requires.rising.once;
+      changed_rise = rw changed c.requires.rising.changed_rise;
+      added_rise = rw added c.requires.rising.added_rise;
+    }
+
+pub returns-clause-changed : goal.returns-clause-changed
+returns-clause-changed c =
+    let same = ap length c.in_default.ensures.none.0 in
+    omega (arith, same)
+
+pub returns-clause-added : goal.returns-clause-added
+returns-clause-added c =
+    let same = ap length c.if-pop_added.ensures.none.0 in
+    omega (arith, same)
