@@ -77,3 +77,37 @@ returns-in-Some-clause-same c =
     (rest_both (all_in m.older) (all_in m.later) (all_in c.take-older.new.self) (all_in c.take-later.new.self) node
     c.take-older.ensures.rest c.take-later.ensures.rest) value none
     ∙ ap (λ p. p.0) c.self.view_is
+
+pub take-older-requires-clause-most : goal.take-older-requires-clause-most
+take-older-requires-clause-most c = λ q l. c.end.ensures.most q (omega (arith, l, c.larger-end.ensures.one))
+
+pub take-later-requires-clause-most : goal.take-later-requires-clause-most
+take-later-requires-clause-most c = λ q l. c.end-2.ensures.most q (omega (arith, l, c.larger-end.ensures.other))
+
+pub put-requires-clause-changed : goal.put-requires-clause-changed
+put-requires-clause-changed c =
+    let is = sym c.or.ensures ∙ c.in-Some.is in
+    let changed : changed_in (Some c.in-Some.entry) ≤ changed_in c.take-older.result + changed_in c.take-later.result =
+    subst (λ o. changed_in o ≤ changed_in c.take-older.result + changed_in c.take-later.result) is
+    (few_changed c.take-older.result c.take-later.result) in
+    omega (
+      arith,
+      changed,
+      c.take-older.ensures.changed,
+      c.take-later.ensures.changed,
+      c.self.invariant.changed,
+    )
+
+pub put-requires-clause-added : goal.put-requires-clause-added
+put-requires-clause-added c =
+    let is = sym c.or.ensures ∙ c.in-Some.is in
+    let added : added_in (Some c.in-Some.entry) ≤ added_in c.take-older.result + added_in c.take-later.result =
+    subst (λ o. added_in o ≤ added_in c.take-older.result + added_in c.take-later.result) is
+    (few_added c.take-older.result c.take-later.result) in
+    omega (
+      arith,
+      added,
+      c.take-older.ensures.added,
+      c.take-later.ensures.added,
+      c.self.invariant.added,
+    )
