@@ -1,15 +1,16 @@
 -- What one dimension more makes of rows, texts and tree, and how they are where none came.
-use Rattle.std.specs.Prelude.{◌+◌, ◌<◌, ◌≡◌, ◌≤◌, None, false, length, map}
+use Rattle.std.specs.Prelude.{◌+◌, ◌<◌, ◌≡◌, ◌≤◌, None, Some, false, length, map}
 use Rattle.std.specs.FinMap as finmap
-use Rattle.base_table.specs.Places.{IsTable, rows_of, with_code}
+use Rattle.std.specs.FinSet as set
+use Rattle.base_table.specs.Places.{IsTable, base_of, rows_of, with_code}
 use Rattle.cube_defs.specs.declared.limits.TheConstants.{MAX_DIMS}
 use Rattle.cube_defs.specs.Text.{Text}
 use Rattle.qc_arena.specs.Map.{is_open, shape_of}
 use Rattle.qc_schema.specs.Schema.{IsLayout, Layout}
 use Rattle.tree_search.specs.Found.{IsTreeOf}
-use Rattle.value_dict.specs.TextLists.{IsDictionary, with_dim}
+use Rattle.value_dict.specs.TextLists.{IsDictionary, with_dim, without_last_dim}
 use Rattle.warehouse.specs.ClassMoves.{HasRoom}
-use Rattle.warehouse.specs.Steps.{frame}
+use Rattle.warehouse.specs.Steps.{closed, frame}
 use Rattle.warehouse.specs.Widening.{KeepsWidened}
 use Rattle.warehouse.specs.declared.cube.Cube.{Cube}
 
@@ -54,3 +55,25 @@ pub record AreClosed (cube cube' : Cube) : Type 0 where
   pub closed : is_open cube'.tree ≡ false
   pub max : cube'.tree.max ≡ cube.tree.max
   pub images : cube'.tree.last ≡ finmap.empty
+
+-- an open batch was kept, and there are no before-images
+pub record IsKept (cube cube' : Cube) : Type 0 where
+  pub texts : cube'.dict ≡ cube.dict
+  pub rows : rows_of cube'.table ≡ rows_of cube.table
+  pub frame : frame cube'.table ≡ frame (closed cube.table)
+  pub valid : IsTable cube'.table
+  pub of_tree : cube'.tree ≡ record cube.tree { was = None; touched = set.empty; last = finmap.empty }
+
+-- an open batch was taken back, and the last dimension's texts are gone
+pub record IsTakenBack (cube cube' : Cube) : Type 0 where
+  pub rows : Some (base_of cube'.table) ≡ cube.table.was
+  pub was : cube'.table.was ≡ None
+  pub measures : cube'.table.measures ≡ cube.table.measures
+  pub max : cube'.table.max ≡ cube.table.max
+  pub valid : IsTable cube'.table
+  pub texts : cube'.dict ≡ without_last_dim cube.dict
+  pub dictionary : IsDictionary cube'.dict
+  pub shape : Some (shape_of cube'.tree) ≡ cube.tree.was
+  pub closed : is_open cube'.tree ≡ false
+  pub most_nodes : cube'.tree.max ≡ cube.tree.max
+  pub images : cube'.tree.last ≡ cube.tree.last

@@ -161,8 +161,13 @@ pub(crate) fn build_index<L: Ledger>(
     if schema.indexes().is_empty() {
         return Ok(());
     }
-    *index = filled_index(alloc, schema, tree, steps)?;
-    Ok(())
+    match filled_index(alloc, schema, tree, steps) {
+        Ok(filled) => {
+            *index = filled;
+            Ok(())
+        }
+        Err(error) => Err(error),
+    }
 }
 
 /// Changes the index of the tree at the begin of the batch into that of the present tree, by the

@@ -16,7 +16,7 @@ ghost use Rattle.qc_schema.specs.Schema.{max_dims};
 ghost use Rattle.tree_laws.specs.Counts.{classes_in};
 ghost use Rattle.tree_search.specs.Found.{IsTreeOf};
 ghost use Rattle.warehouse.specs.Changing.{AreParts, contents_of, state_in};
-ghost use Rattle.warehouse.specs.Dimensions.{AreRestored, AreClosed, AreWidened, CanWiden};
+ghost use Rattle.warehouse.specs.Dimensions.{AreRestored, AreClosed, AreWidened, CanWiden, IsKept, IsTakenBack};
 ghost use Rattle.warehouse.specs.ClassMoves.{CanTakeChild, MovesClassTo, HasChild, HasRoom, HasRoomAt, IsWide, with_forced_child};
 ghost use Rattle.warehouse.specs.NodeLists.{AreNodesOf, MovesClassOf};
 ghost use Rattle.warehouse.specs.State.{IsIndexed};
@@ -109,7 +109,10 @@ fn move_class_to_child<L: Ledger>(
     ensures frame { frame tree.new ≡ frame tree.old }
     ensures steps { steps.new ≤ steps.old + 6 }
 {
-    tree.touch(node, steps)?;
+    match tree.touch(node, steps) {
+        Ok(()) => {}
+        Err(error) => return Err(error),
+    }
     let child = match add_child(tree, node, dim, class, steps) {
         Ok(child) => child,
         Err(error) => return Err(error),
@@ -229,6 +232,30 @@ fn widen_both<L: Ledger>(
     listed_index(alloc, wide, tree, nodes, steps)
 }
 
+// Keeps the dimension that was added in an open batch.
+fn keep_dim(cube: &mut Cube)
+    requires rows { is_some cube.old.table.was ≡ true }
+    requires tree { is_open cube.old.tree ≡ true }
+    ensures { IsKept cube.old cube.new }
+{
+    cube.commit();
+    // After a new dimension the before-images are of no use.
+    cube.tree.drop_images();
+}
+
+// Takes an open batch back, and the last dimension of the texts with it.
+fn take_dim_back(cube: &mut Cube)
+    requires rows { is_some cube.old.table.was ≡ true }
+    requires tree { is_open cube.old.tree ≡ true }
+    requires texts { 1 < length cube.old.dict.lists }
+    ensures { IsTakenBack cube.old cube.new }
+{
+    cube.table.rollback();
+    cube.table.recall_invariant();
+    cube.tree.rollback();
+    cube.dict.drop_dim();
+}
+
 // Adds the dimension to rows, texts and tree, whose nodes are given, and builds the index of the
 // tree's classes. After a refusal all is as it was.
 fn widen_parts<L: Ledger>(
@@ -246,7 +273,10 @@ fn widen_parts<L: Ledger>(
     ensures index { IfOk result (λ index. IsIndexed wide.now cube.new.tree.now index) }
     ensures steps { OnOk result (steps.new ≤ steps.old + 9 * length nodes.old.items) }
 {
-    cube.dict.add_dim(value)?;
+    match cube.dict.add_dim(value) {
+        Ok(()) => {}
+        Err(error) => return Err(error),
+    }
     cube.table.begin();
     cube.tree.begin();
     match widen_both(
@@ -258,16 +288,11 @@ fn widen_parts<L: Ledger>(
         steps,
     ) {
         Ok(index) => {
-            cube.commit();
-            // After a new dimension the before-images are of no use.
-            cube.tree.drop_images();
+            keep_dim(cube);
             Ok(index)
         }
         Err(error) => {
-            cube.table.rollback();
-            cube.table.recall_invariant();
-            cube.tree.rollback();
-            cube.dict.drop_dim();
+            take_dim_back(cube);
             Err(error)
         }
     }

@@ -1,10 +1,14 @@
-use Rattle.std.proofs.Common.{ℕ}
+use Rattle.std.proofs.Common.{Err, Ok, Result, ◌≡◌, ◌∙◌, ℕ, refl, subst, sym}
 use Rattle.std.proofs.lemmas.List.Elements.{All-push}
-use Rattle.base_table.specs.Places.{row_of, rows_of}
+use Rattle.base_table.specs.Places.{Places, row_of, rows_of}
 use Rattle.csv_load.specs.Batch.{change_at}
 use Rattle.cube_defs.specs.Rows.{Row}
 use Rattle.value_dict.specs.Decoded.{AreCodes}
+use Rattle.value_dict.specs.declared.Learn.{Learn}
+use Rattle.value_dict.specs.declared.Learn.TheVariants as learns
+use Rattle.warehouse.specs.Changing.{OnlyAdds}
 use Rattle.warehouse.proofs.Growing.{known-longer, row-inserted}
+use Rattle.warehouse.proofs.TreeInsertions.{prefix-same}
 use Rattle.warehouse.proofs.changing.insert_table_row.Goals as goal
 
 pub returns-in-Ok-insert-clause-inserted : goal.returns-in-Ok-insert-clause-inserted
@@ -23,3 +27,76 @@ returns-in-Ok-insert-clause-inserted c =
           (known-longer c.args.dict.now.lists now (rows_of c.args.table.now) c.in-Ok.ensures.longer
           c.requires.can.known) c.in-Ok.ensures.learnt.codes);
     }
+
+ok-is-not-full : (r : Result (Unit {0}) Learn) → r ≡ Ok tt → r ≡ Err learns.Full → ⊥
+ok-is-not-full r ok full = cc
+
+memory-is-not-full : (r : Result (Unit {0}) Learn) → r ≡ Err learns.Memory → r ≡ Err learns.Full → ⊥
+memory-is-not-full r memory full = cc
+
+pub learn_tuple-requires-clause-insertion : goal.learn_tuple-requires-clause-insertion
+learn_tuple-requires-clause-insertion c = c.requires.insertion
+
+pub learn_tuple-requires-clause-cell_dims : goal.learn_tuple-requires-clause-cell_dims
+learn_tuple-requires-clause-cell_dims c = c.requires.cell_dims
+
+pub learn_tuple-requires-clause-can : goal.learn_tuple-requires-clause-can
+learn_tuple-requires-clause-can c = record {
+  lists = c.requires.can.lists;
+  dictionary = c.requires.can.dictionary;
+  valid = c.requires.can.valid;
+}
+
+pub returns-in-Err-clause-full : goal.returns-in-Err-clause-full
+returns-in-Err-clause-full c = c.in-Err.ensures.full
+
+pub returns-in-Err-clause-adds : goal.returns-in-Err-clause-adds
+returns-in-Err-clause-adds c = record {
+  longer = c.learn_tuple.ensures.longer;
+  most_texts = c.learn_tuple.ensures.max;
+  dictionary = c.learn_tuple.ensures.dictionary;
+  front = prefix-same c.args.table.now;
+  frame = refl;
+}
+
+pub returns-in-Err-clause-cell_dims : goal.returns-in-Err-clause-cell_dims
+returns-in-Err-clause-cell_dims c = c.learn_tuple.ensures.cell_dims
+
+pub id-requires : goal.id-requires
+id-requires c = c.requires.insertion.there
+
+pub amounts-requires : goal.amounts-requires
+amounts-requires c = c.requires.insertion
+
+pub insert-requires-clause-is_open : goal.insert-requires-clause-is_open
+insert-requires-clause-is_open c = c.requires.can.is_open
+
+pub insert-requires-clause-dims : goal.insert-requires-clause-dims
+insert-requires-clause-dims c = c.learn_tuple.ensures.cell_dims ∙ c.requires.cell_dims ∙ sym c.requires.can.dims
+
+pub insert-requires-clause-no_any : goal.insert-requires-clause-no_any
+insert-requires-clause-no_any c = c.in-Ok.ensures.learnt.whole
+
+pub returns-in-Ok-insert-clause-full : goal.returns-in-Ok-insert-clause-full
+returns-in-Ok-insert-clause-full c = λ e. absurd (ok-is-not-full _ refl e)
+
+pub returns-in-Ok-insert-clause-cell_dims : goal.returns-in-Ok-insert-clause-cell_dims
+returns-in-Ok-insert-clause-cell_dims c = c.learn_tuple.ensures.cell_dims
+
+pub returns-in-Err-Memory-clause-full : goal.returns-in-Err-Memory-clause-full
+returns-in-Err-Memory-clause-full c = λ e. absurd (memory-is-not-full _ refl e)
+
+pub returns-in-Err-Memory-clause-adds : goal.returns-in-Err-Memory-clause-adds
+returns-in-Err-Memory-clause-adds c =
+    subst (λ (t : Places). OnlyAdds c.args.dict.now c.learn_tuple.new.dict c.args.table.now t)
+    (sym c.in-Err-Memory.ensures.err)
+    (record {
+      longer = c.learn_tuple.ensures.longer;
+      most_texts = c.learn_tuple.ensures.max;
+      dictionary = c.learn_tuple.ensures.dictionary;
+      front = prefix-same c.args.table.now;
+      frame = refl;
+    })
+
+pub returns-in-Err-Memory-clause-cell_dims : goal.returns-in-Err-Memory-clause-cell_dims
+returns-in-Err-Memory-clause-cell_dims c = c.learn_tuple.ensures.cell_dims

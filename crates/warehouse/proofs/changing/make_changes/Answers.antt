@@ -1,9 +1,11 @@
-use Rattle.std.proofs.Common.{◌≤◌, ◌+◌, ◌∙◌, ℕ, List, ap, length, subst, sym, take}
+use Rattle.std.proofs.Common.{◌≤◌, ◌+◌, ◌∙◌, ℕ, List, ap, is_some, length, refl, subst, sym, take}
+use Rattle.std.proofs.lemmas.List.{length-map}
 use Rattle.std.specs.Prelude.{IfSome}
 use Rattle.cube_defs.specs.Tree.{Tree}
-use Rattle.base_table.specs.Places.{rows_of}
+use Rattle.base_table.specs.Places.{Places, rows_of}
+use Rattle.cube_defs.specs.Text.{Text}
 use Rattle.measure_index.specs.Rankings.{Ranking}
-use Rattle.qc_arena.specs.Map.{Arena}
+use Rattle.qc_arena.specs.Map.{Arena, is_open}
 use Rattle.warehouse.specs.Changing.{AreAsBefore, state_in}
 use Rattle.warehouse.specs.Loading.{IsLoad, cost_of_tree}
 use Rattle.warehouse.specs.State.{Contents, IsIndexed}
@@ -115,3 +117,42 @@ returns-in-Ok-change_and_index-clause-loaded g c = λ load.
     subst (λ (t : Tree ℕ). c.change_and_index.new.steps ≤ c.args.steps.now
     + cost_of_tree (length c.args.schema.now.dims) t) (sym (ap (λ (a : Arena). a.now) c.commit.ensures.of_tree))
     (c.in-Ok-change_and_index.ensures.loaded begun)
+
+pub returns-in-Err-clause-same : goal.returns-in-Err-clause-same
+returns-in-Err-clause-same g c = refl
+
+pub returns-in-Err-clause-parts : goal.returns-in-Err-clause-parts
+returns-in-Err-clause-parts g c = c.requires.parts
+
+pub begin-lens-requires-clause-stored : goal.begin-lens-requires-clause-stored
+begin-lens-requires-clause-stored g c = c.requires.parts.stored
+
+pub begin-lens-requires-clause-kept : goal.begin-lens-requires-clause-kept
+begin-lens-requires-clause-kept g c = c.requires.parts.kept
+
+pub change_and_index-requires-clause-begun : goal.change_and_index-requires-clause-begun
+change_and_index-requires-clause-begun g c = c.begin-lens.ensures.begun
+
+pub commit-requires-clause-rows : goal.commit-requires-clause-rows
+commit-requires-clause-rows g c =
+    ap (λ (t : Places). is_some t.was) c.change_and_index.ensures.frames.of_table ∙ c.begin-lens.ensures.begun.rows_open
+
+pub commit-requires-clause-tree : goal.commit-requires-clause-tree
+commit-requires-clause-tree g c =
+    ap is_open c.change_and_index.ensures.frames.of_tree ∙ c.begin-lens.ensures.begun.tree_open
+
+pub roll_back-requires-clause-rows : goal.roll_back-requires-clause-rows
+roll_back-requires-clause-rows g c =
+    ap (λ (t : Places). is_some t.was) c.change_and_index.ensures.frames.of_table ∙ c.begin-lens.ensures.begun.rows_open
+
+pub roll_back-requires-clause-tree : goal.roll_back-requires-clause-tree
+roll_back-requires-clause-tree g c =
+    ap is_open c.change_and_index.ensures.frames.of_tree ∙ c.begin-lens.ensures.begun.tree_open
+
+pub roll_back-requires-clause-lens : goal.roll_back-requires-clause-lens
+roll_back-requires-clause-lens g c =
+    ap (λ (ns : List ℕ). length ns) (ap (λ (n : ℕ). take n c.begin-lens.result) (c.from.ensures ∙ c.dims.ensures.count)
+    ∙ c.begin-lens.ensures.lens)
+    ∙ length-map c.args.cube.now.dict.lists (λ (texts : List Text). length texts)
+    ∙ ap (λ (cube : Cube). length cube.dict.lists) (sym c.begin-lens.ensures.opened)
+    ∙ sym c.change_and_index.ensures.frames.longer.dims

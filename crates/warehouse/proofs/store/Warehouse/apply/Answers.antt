@@ -159,3 +159,27 @@ returns-in-Ok-clause-unread g c = λ h.
     = subst (λ (s : State). batch_in s.schema c.args.bytes.now ≡ Ok c.in-Ok.batch.changes) state
     c.in-Ok.ensures.gives in
     absurd (true≢false (sym (subst IsErr read h)))
+
+pub read_batch-requires : goal.read_batch-requires
+read_batch-requires g c = c.requires
+
+pub returns-in-Ok-clause-valid : goal.returns-in-Ok-clause-valid
+returns-in-Ok-clause-valid g c = c.make_changes.ensures.valid
+
+pub returns-in-Err-clause-state : goal.returns-in-Err-clause-state
+returns-in-Err-clause-state g c = ap (λ (w : Contents). w.state) c.drop_images.ensures.rest
+
+pub returns-in-Err-clause-tree : goal.returns-in-Err-clause-tree
+returns-in-Err-clause-tree g c = ap (λ (w : Contents). w.tree) c.drop_images.ensures.rest
+
+pub returns-in-Err-clause-index : goal.returns-in-Err-clause-index
+returns-in-Err-clause-index g c = ap (λ (w : Contents). w.index) c.drop_images.ensures.rest
+
+pub returns-in-Err-clause-no_images : goal.returns-in-Err-clause-no_images
+returns-in-Err-clause-no_images g c = ap (λ (w : Contents). w.images) c.drop_images.ensures.rest
+
+pub same-self : goal.same-self
+same-self g c = refl
+
+pub same-self-in-Err : goal.same-self-in-Err
+same-self-in-Err g c = refl

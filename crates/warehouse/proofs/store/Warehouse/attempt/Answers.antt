@@ -1,4 +1,4 @@
-use Rattle.std.proofs.Common.{Err, List, Ok, Result, ap, subst, sym, true≢false, ◌+◌, ◌∙◌, ◌≡◌, ◌≤◌}
+use Rattle.std.proofs.Common.{Err, List, Ok, Result, ap, length, refl, subst, sym, true≢false, ◌+◌, ◌∙◌, ◌≡◌, ◌≤◌}
 use Rattle.std.specs.Prelude.{IfSome, IsErr, OnOk}
 use Rattle.cell_core.specs.Gives.{Gives}
 use Rattle.csv_load.specs.Batch.{Change}
@@ -60,3 +60,32 @@ returns-in-Ok-clause-unread g c = λ h.
     = subst (λ (s : State). batch_in s.schema c.args.bytes.now ≡ Ok c.in-Ok.batch.changes) state
     c.in-Ok.ensures.gives in
     absurd (true≢false (sym (subst IsErr read h)))
+
+pub read_batch-requires : goal.read_batch-requires
+read_batch-requires g c = c.requires
+
+pub attempt_changes-requires-clause-dims : goal.attempt_changes-requires-clause-dims
+attempt_changes-requires-clause-dims g c =
+    c.in-Ok.ensures.dims ∙ ap (λ (w : Contents). length w.state.schema.dims) c.self.view_is
+
+pub attempt_changes-requires-clause-measures : goal.attempt_changes-requires-clause-measures
+attempt_changes-requires-clause-measures g c =
+    c.in-Ok.ensures.measures ∙ ap (λ (w : Contents). length w.state.schema.measures) c.self.view_is
+
+pub attempt_changes-requires-clause-images : goal.attempt_changes-requires-clause-images
+attempt_changes-requires-clause-images g c = ap (λ (w : Contents). w.images) c.drop_images.ensures.rest
+
+pub returns-in-Ok-clause-same : goal.returns-in-Ok-clause-same
+returns-in-Ok-clause-same g c = c.attempt_changes.ensures.same ∙ c.drop_images.ensures.rest
+
+pub returns-in-Ok-clause-valid : goal.returns-in-Ok-clause-valid
+returns-in-Ok-clause-valid g c = c.attempt_changes.ensures.valid
+
+pub returns-in-Err-clause-same : goal.returns-in-Err-clause-same
+returns-in-Err-clause-same g c = c.drop_images.ensures.rest
+
+pub same-self : goal.same-self
+same-self g c = refl
+
+pub same-self-in-Err : goal.same-self-in-Err
+same-self-in-Err g c = refl

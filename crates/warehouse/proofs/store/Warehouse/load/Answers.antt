@@ -126,3 +126,42 @@ returns-in-Ok-clause-steps g c =
     (λ (within : IsLoad buildings.FromScratch c.drop_images.new.self.state c.in-Ok.batch.changes
     → c.make_changes.new.steps ≤ c.args.steps.now + cost_of_load c.make_changes.new.self.state). within load)
     c.make_changes.ensures.loaded
+
+pub returns-then-count-ne0-clause-state : goal.returns-then-count-ne0-clause-state
+returns-then-count-ne0-clause-state g c = ap (λ (w : Contents). w.state) c.drop_images.ensures.rest
+
+pub returns-then-count-ne0-clause-tree : goal.returns-then-count-ne0-clause-tree
+returns-then-count-ne0-clause-tree g c = ap (λ (w : Contents). w.tree) c.drop_images.ensures.rest
+
+pub returns-then-count-ne0-clause-index : goal.returns-then-count-ne0-clause-index
+returns-then-count-ne0-clause-index g c = ap (λ (w : Contents). w.index) c.drop_images.ensures.rest
+
+pub returns-then-count-ne0-clause-no_images : goal.returns-then-count-ne0-clause-no_images
+returns-then-count-ne0-clause-no_images g c = ap (λ (w : Contents). w.images) c.drop_images.ensures.rest
+
+pub read_base-requires : goal.read_base-requires
+read_base-requires g c = c.requires
+
+pub returns-in-Ok-clause-valid : goal.returns-in-Ok-clause-valid
+returns-in-Ok-clause-valid g c = c.make_changes.ensures.valid
+
+pub returns-in-Err-clause-state : goal.returns-in-Err-clause-state
+returns-in-Err-clause-state g c = ap (λ (w : Contents). w.state) c.drop_images.ensures.rest
+
+pub returns-in-Err-clause-tree : goal.returns-in-Err-clause-tree
+returns-in-Err-clause-tree g c = ap (λ (w : Contents). w.tree) c.drop_images.ensures.rest
+
+pub returns-in-Err-clause-index : goal.returns-in-Err-clause-index
+returns-in-Err-clause-index g c = ap (λ (w : Contents). w.index) c.drop_images.ensures.rest
+
+pub returns-in-Err-clause-no_images : goal.returns-in-Err-clause-no_images
+returns-in-Err-clause-no_images g c = ap (λ (w : Contents). w.images) c.drop_images.ensures.rest
+
+pub same-self : goal.same-self
+same-self g c = refl
+
+pub same-self-in-Ok : goal.same-self-in-Ok
+same-self-in-Ok g c = refl
+
+pub same-self-in-Err : goal.same-self-in-Err
+same-self-in-Err g c = refl
