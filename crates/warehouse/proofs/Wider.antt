@@ -190,6 +190,14 @@ room-free false most count e = by_test (nat_lt most count) refl e
     by_test true s f = absurd (cc f)
     by_test false s f = grind (arith, s)
 
+pub dims-free : (most dims : ℕ) (rest : Option WidenRefused)
+    → None ≡ cond (nat_le most dims) (Some refusals.DimsFull) rest → dims < most
+dims-free most dims rest e = by_test (nat_le most dims) refl e
+  where
+    by_test : (b : Bool) → nat_le most dims ≡ b → None ≡ cond b (Some refusals.DimsFull) rest → dims < most
+    by_test true s f = absurd (cc f)
+    by_test false s f = grind (arith, s)
+
 abbrev pub full_by : State → ℕ → Option WidenRefused
 full_by s count = cond (nat_le (max_dims s.schema.version) (length s.schema.dims)) (Some refusals.DimsFull)
     (cond (nat_lt s.schema.nodes count) (Some refusals.NodesFull) None)

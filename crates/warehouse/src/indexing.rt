@@ -191,8 +191,16 @@ pub(crate) fn change_index(
     if schema.indexes().is_empty() {
         return Ok(());
     }
-    let removed = tree.classes_removed(alloc)?;
-    let added = tree.classes_added(alloc)?;
-    index.change(&added, &removed)?;
-    Ok(())
+    let removed = match tree.classes_removed(alloc) {
+        Ok(removed) => removed,
+        Err(error) => return Err(error),
+    };
+    let added = match tree.classes_added(alloc) {
+        Ok(added) => added,
+        Err(error) => return Err(error),
+    };
+    match index.change(&added, &removed) {
+        Ok(()) => Ok(()),
+        Err(error) => Err(error),
+    }
 }

@@ -343,8 +343,14 @@ pub(crate) fn widen<L: Ledger>(
     if let Some(refused) = widen_refusal(schema, &cube.tree) {
         return Err(refused);
     }
-    let mut nodes = all_nodes(cube.alloc, &cube.tree, steps)?;
-    let wide = schema.with_dim(cube.alloc, name)?;
+    let mut nodes = match all_nodes(cube.alloc, &cube.tree, steps) {
+        Ok(nodes) => nodes,
+        Err(_) => return Err(WidenRefused::Memory),
+    };
+    let wide = match schema.with_dim(cube.alloc, name) {
+        Ok(wide) => wide,
+        Err(_) => return Err(WidenRefused::Memory),
+    };
     // A schema has a layout of its own.
     let _dims = wide.dims();
     let made = match widen_parts(&wide, cube, &mut nodes, value, steps) {

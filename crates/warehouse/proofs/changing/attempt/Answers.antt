@@ -1,4 +1,8 @@
-use Rattle.std.proofs.Common.{◌≤◌, ◌+◌, ◌∙◌, ℕ, ap, refl, subst, take}
+use Rattle.std.proofs.Common.{◌≤◌, ◌+◌, ◌∙◌, ℕ, List, ap, is_some, length, refl, subst, sym, take}
+use Rattle.std.proofs.lemmas.List.{length-map}
+use Rattle.base_table.specs.Places.{Places}
+use Rattle.cube_defs.specs.Text.{Text}
+use Rattle.qc_arena.specs.Map.{is_open}
 use Rattle.warehouse.specs.Batch.{after}
 use Rattle.warehouse.specs.Changing.{state_in}
 use Rattle.warehouse.specs.InPlace.{cost_in}
@@ -78,3 +82,29 @@ returns-in-Err-built-clause-back g c =
     c.roll_back.new.self (take c.from-dims.result c.begin-lens.result)
     (ap (λ (n : ℕ). take n c.begin-lens.result) (c.from-dims.ensures ∙ c.dims.ensures.count)
     ∙ c.begin-lens.ensures.lens) c.roll_back.ensures
+
+pub begin-lens-requires-clause-stored : goal.begin-lens-requires-clause-stored
+begin-lens-requires-clause-stored g c = c.requires.stored
+
+pub begin-lens-requires-clause-kept : goal.begin-lens-requires-clause-kept
+begin-lens-requires-clause-kept g c = c.requires.kept
+
+pub change_and_build-built-requires-clause-begun : goal.change_and_build-built-requires-clause-begun
+change_and_build-built-requires-clause-begun g c = c.begin-lens.ensures.begun
+
+pub roll_back-requires-clause-rows : goal.roll_back-requires-clause-rows
+roll_back-requires-clause-rows g c =
+    ap (λ (t : Places). is_some t.was) c.change_and_build-built.ensures.frames.of_table
+    ∙ c.begin-lens.ensures.begun.rows_open
+
+pub roll_back-requires-clause-tree : goal.roll_back-requires-clause-tree
+roll_back-requires-clause-tree g c =
+    ap is_open c.change_and_build-built.ensures.frames.of_tree ∙ c.begin-lens.ensures.begun.tree_open
+
+pub roll_back-requires-clause-lens : goal.roll_back-requires-clause-lens
+roll_back-requires-clause-lens g c =
+    ap (λ (ns : List ℕ). length ns) (ap (λ (n : ℕ). take n c.begin-lens.result)
+    (c.from-dims.ensures ∙ c.dims.ensures.count) ∙ c.begin-lens.ensures.lens)
+    ∙ length-map c.args.cube.now.dict.lists (λ (texts : List Text). length texts)
+    ∙ ap (λ (cube : Cube). length cube.dict.lists) (sym c.begin-lens.ensures.opened)
+    ∙ sym c.change_and_build-built.ensures.frames.longer.dims

@@ -164,3 +164,15 @@ returns-in-Ok-make_tree-clause-loaded g c = λ load.
     let deletions = ap (cost_of_deletions t.dims (rows_of t)) load.inserts in
     let built = c.in-Ok-make_tree.ensures.scratch load.scratch empty in
     omega (arith, is.steps, deletions, built, cost)
+
+pub change_rows-requires-clause-begun : goal.change_rows-requires-clause-begun
+change_rows-requires-clause-begun g c = c.requires.begun
+
+pub change_rows-requires-clause-fit : goal.change_rows-requires-clause-fit
+change_rows-requires-clause-fit g c = c.requires.fit
+
+pub returns-in-Err-clause-cause : goal.returns-in-Err-clause-cause
+returns-in-Err-clause-cause g c = c.in-Err.ensures.cause
+
+pub returns-in-Err-clause-frames : goal.returns-in-Err-clause-frames
+returns-in-Err-clause-frames g c = c.change_rows.ensures.frames

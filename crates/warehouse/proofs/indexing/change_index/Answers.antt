@@ -1,4 +1,4 @@
-use Rattle.std.proofs.Common.{ℕ, Option, List, ◌∙◌, subst, sym}
+use Rattle.std.proofs.Common.{ℕ, Option, List, ◌∙◌, refl, subst, sym}
 use Rattle.std.specs.List.{All}
 use Rattle.aggregates.specs.declared.agg.Agg.{Agg}
 use Rattle.cell_core.specs.declared.cell.NodeNo.{NodeNo}
@@ -16,7 +16,7 @@ change-requires-clause-add c =
     = begun c.args.schema.now tree c.args.index.now c.requires.opened c.requires.before in
     subst (λ (ps : List (NodeNo × Agg)). All (λ r. HaveMeasure r.kind ps) c.args.index.now) (sym c.deref.ensures.value)
     (measured c.args.schema.now tree.now c.args.index.now c.dims-dims.ensures.layout c.requires.now b.indexed.kinds
-    (class_was tree) c.in_ok-added.added.items c.in_ok-added.ensures)
+    (class_was tree) c.in-Ok-classes_added.added.items c.in-Ok-classes_added.ensures)
 
 pub change-requires-clause-remove : goal.change-requires-clause-remove
 change-requires-clause-remove c =
@@ -26,22 +26,28 @@ change-requires-clause-remove c =
     subst (λ (ps : List (NodeNo × Agg)). All (λ r. HaveMeasure r.kind ps) c.args.index.now)
     (sym c.deref-2.ensures.value)
     (measured c.args.schema.now b.tree c.args.index.now c.dims-dims.ensures.layout b.is b.indexed.kinds
-    (class_now tree) c.in_ok-removed.removed.items
-    (subst (λ (class : ℕ → Option defs.Agg). AreNew (class_now tree) class c.in_ok-removed.removed.items) b.was
-    c.in_ok-removed.ensures))
+    (class_now tree) c.in-Ok.removed.items
+    (subst (λ (class : ℕ → Option defs.Agg). AreNew (class_now tree) class c.in-Ok.removed.items) b.was
+    c.in-Ok.ensures))
 
-pub returns-clause-indexed : goal.returns-clause-indexed
-returns-clause-indexed c =
+pub returns-in-Ok-change-clause-indexed : goal.returns-in-Ok-change-clause-indexed
+returns-in-Ok-change-clause-indexed c =
     let tree = c.args.tree.now in
     let b : IsBegun c.args.schema.now tree c.args.index.now
     = begun c.args.schema.now tree c.args.index.now c.requires.opened c.requires.before in
     record {
       classes =
-          c.in_ok-change.ensures.classes (class_was tree) (class_now tree)
+          c.in-Ok-change.ensures.classes (class_was tree) (class_now tree)
           (subst (λ (ps : List (NodeNo × Agg)). AreNew (class_was tree) (class_now tree) ps)
-          (sym c.deref.ensures.value) c.in_ok-added.ensures)
+          (sym c.deref.ensures.value) c.in-Ok-classes_added.ensures)
           (subst (λ (ps : List (NodeNo × Agg)). AreNew (class_now tree) (class_was tree) ps)
-          (sym c.deref-2.ensures.value) c.in_ok-removed.ensures)
+          (sym c.deref-2.ensures.value) c.in-Ok.ensures)
           (subst (λ (class : ℕ → Option defs.Agg). IsIndex class c.args.index.now) (sym b.was) b.indexed.classes);
-      kinds = c.in_ok-change.ensures.units ∙ b.indexed.kinds;
+      kinds = c.change.ensures.units ∙ b.indexed.kinds;
     }
+
+pub returns-in-Err-clause-err : goal.returns-in-Err-clause-err
+returns-in-Err-clause-err c = refl
+
+pub returns-in-Err-classes_added-clause-err : goal.returns-in-Err-classes_added-clause-err
+returns-in-Err-classes_added-clause-err c = refl

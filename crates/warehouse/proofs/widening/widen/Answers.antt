@@ -25,7 +25,7 @@ use Rattle.warehouse.proofs.Counted.{classes-kept, nodes-kept}
 use Rattle.warehouse.proofs.NodeLists.{numbers_few}
 use Rattle.warehouse.proofs.States.{stored-next}
 use Rattle.warehouse.proofs.Trees.{kept-back}
-use Rattle.warehouse.proofs.Wider.{cost-wide, kept-wide, refused-full, room-free, state-wide, stored-wide, taken-free}
+use Rattle.warehouse.proofs.Wider.{cost-wide, dims-free, kept-wide, refused-full, room-free, state-wide, stored-wide, taken-free}
 use Rattle.warehouse.proofs.widening.widen.Goals as goal
 
 pub returns-in-Some-clause-gives : goal.returns-in-Some-clause-gives
@@ -48,10 +48,10 @@ widen_parts-requires-clause-can g c =
     let schema = c.args.schema.now in
     let table = c.args.cube.now.table in
     let tree = c.args.cube.now.tree in
-    let wide = c.in_ok-wide.wide in
+    let wide = c.in-Ok-with_dim.wide in
     let stored = c.requires.parts.stored in
     let kept = c.requires.parts.kept in
-    let longer : wide ≡ with_dim schema c.args.name.now = c.in_ok-wide.ensures in
+    let longer : wide ≡ with_dim schema c.args.name.now = c.in-Ok-with_dim.ensures in
     let long : length wide.dims ≡ table.dims + 1 = ap (λ (l : Layout). length l.dims) longer
     ∙ length-append schema.dims (c.args.name.now ∷ []) ∙ ap (λ (n : ℕ). n + 1) (sym stored.dims) in
     record {
@@ -78,10 +78,10 @@ widen_parts-requires-clause-can g c =
       );
     }
 
-pub returns-in-Err-clause-same : goal.returns-in-Err-clause-same
-returns-in-Err-clause-same g c =
+pub returns-in-Err-widen_parts-clause-same : goal.returns-in-Err-widen_parts-clause-same
+returns-in-Err-widen_parts-clause-same g c =
     let schema = c.args.schema.now in
-    let back = c.in-Err.ensures.back in
+    let back = c.in-Err-widen_parts.ensures.back in
     let state : state_of schema c.widen_parts.new.cube.dict c.widen_parts.new.cube.table
     ≡ state_of schema c.args.cube.now.dict c.args.cube.now.table =
     ap₂ (λ (d : TextLists) (rs : List (Row ℕ)). let s : State
@@ -91,14 +91,14 @@ returns-in-Err-clause-same g c =
     λ j. let held : Contents = record { state = state j; tree = tree j; index = c.args.index.now; images = images j } in
     held
 
-pub returns-in-Err-clause-parts : goal.returns-in-Err-clause-parts
-returns-in-Err-clause-parts g c =
+pub returns-in-Err-widen_parts-clause-parts : goal.returns-in-Err-widen_parts-clause-parts
+returns-in-Err-widen_parts-clause-parts g c =
     let schema = c.args.schema.now in
     let dict = c.args.cube.now.dict in
     let table = c.args.cube.now.table in
     let now = c.widen_parts.new.cube.table in
     let stored = c.requires.parts.stored in
-    let back = c.in-Err.ensures.back in
+    let back = c.in-Err-widen_parts.ensures.back in
     let closes = c.widen_parts.ensures.closed in
     let rest : frame now ≡ frame (closed table)
     = back.frame ∙ ap (λ w. let t : Places = record (frame table) { was = w } in t) stored.closed in
@@ -119,7 +119,7 @@ returns-in-Err-clause-parts g c =
 pub returns-clause-records : goal.returns-clause-records
 returns-clause-records g c
     = subst (λ (n : ℕ). KeepsWidened n c.args.cube.now.tree.now c.widen_parts.new.cube.tree.now)
-    c.requires.parts.stored.dims c.in-Ok.ensures.widened.kept
+    c.requires.parts.stored.dims c.in-Ok-widen_parts.ensures.widened.kept
 
 pub returns-clause-parts : goal.returns-clause-parts
 returns-clause-parts g c =
@@ -130,10 +130,10 @@ returns-clause-parts g c =
     let name = c.args.name.now in
     let value = c.args.value.now in
     let stored = c.requires.parts.stored in
-    let wide = c.in_ok-wide.wide in
-    let wider = c.in-Ok.ensures.widened in
+    let wide = c.in-Ok-with_dim.wide in
+    let wider = c.in-Ok-widen_parts.ensures.widened in
     let closes = c.widen_parts.ensures.closed in
-    let longer : wide ≡ with_dim schema name = c.in_ok-wide.ensures in
+    let longer : wide ≡ with_dim schema name = c.in-Ok-with_dim.ensures in
     let more : c.widen_parts.new.cube.dict ≡ texts.with_dim dict value = wider.texts in
     let long : length wide.dims ≡ table.dims + 1 = ap (λ (l : Layout). length l.dims) longer
     ∙ length-append schema.dims (name ∷ []) ∙ ap (λ (n : ℕ). n + 1) (sym stored.dims) in
@@ -150,7 +150,7 @@ returns-clause-parts g c =
           kept-wide wide now c.widen_parts.new.cube.tree (table.dims + 1) long closes.closed wider.width max wider.few
           (subst (λ (m : ℕ). IsTreeOf (table.dims + 1) c.widen_parts.new.cube.tree.now
           (record { measures = m; rows = rows_of now })) measures wider.canonical);
-      indexed = c.in-Ok.ensures.index;
+      indexed = c.in-Ok-widen_parts.ensures.index;
     }
 
 pub returns-clause-gives : goal.returns-clause-gives
@@ -164,18 +164,18 @@ returns-clause-gives g c =
     let now = c.widen_parts.new.cube.table in
     let stored = c.requires.parts.stored in
     let from = c.requires.parts.kept.from in
-    let longer : c.in_ok-wide.wide ≡ with_dim schema name = c.in_ok-wide.ensures in
-    let more : c.widen_parts.new.cube.dict ≡ texts.with_dim dict value = c.in-Ok.ensures.widened.texts in
+    let longer : c.in-Ok-with_dim.wide ≡ with_dim schema name = c.in-Ok-with_dim.ensures in
+    let more : c.widen_parts.new.cube.dict ≡ texts.with_dim dict value = c.in-Ok-widen_parts.ensures.widened.texts in
     let old = state_of schema dict table in
     let count : finmap.len tree + classes_in nat_cmp tree ≡ nodes_then old =
     ap₂ (λ (m n : ℕ). m + n)
     (nodes-kept dict.lists (rows_of table) stored.known stored.dictionary.distinct _ _ tree from)
     (classes-kept dict.lists (rows_of table) stored.known stored.dictionary.distinct _ _ tree from) in
-    let made : state_of c.in_ok-wide.wide c.widen_parts.new.cube.dict now ≡ widened name value old =
+    let made : state_of c.in-Ok-with_dim.wide c.widen_parts.new.cube.dict now ≡ widened name value old =
     ap₂ (λ (l : Layout) (d : TextLists). state_of l d now) longer more
-    ∙ state-wide schema dict table now name value stored from.wide c.in-Ok.ensures.widened.rows
-    c.in-Ok.ensures.widened.frame in
-    let parts : AreParts c.in_ok-wide.wide c.widen_parts.new.cube c.in-Ok.made = returns-clause-parts g c in
+    ∙ state-wide schema dict table now name value stored from.wide c.in-Ok-widen_parts.ensures.widened.rows
+    c.in-Ok-widen_parts.ensures.widened.frame in
+    let parts : AreParts c.in-Ok-with_dim.wide c.widen_parts.new.cube c.in-Ok-widen_parts.made = returns-clause-parts g c in
     let is = parts.stored in
     let kept = parts.kept in
     let many : c.class_count-classes.result ≡ length (classes text_cmp (widened name value old).rows) =
@@ -190,10 +190,10 @@ returns-clause-gives g c =
 pub returns-clause-steps : goal.returns-clause-steps
 returns-clause-steps g c =
     let tree = c.args.cube.now.tree.now in
-    cost-wide (length c.args.schema.now.dims) tree (length c.in_ok-nodes.nodes.items) c.args.steps.now
+    cost-wide (length c.args.schema.now.dims) tree (length c.in-Ok.nodes.items) c.args.steps.now
     c.all_nodes.new.steps c.widen_parts.new.steps
-    (numbers_few tree c.in_ok-nodes.nodes.items c.in_ok-nodes.ensures.nodes) c.in_ok-nodes.ensures.steps
-    c.in-Ok.ensures.steps
+    (numbers_few tree c.in-Ok.nodes.items c.in-Ok.ensures.nodes) c.in-Ok.ensures.steps
+    c.in-Ok-widen_parts.ensures.steps
 
 pub all_nodes-requires : goal.all_nodes-requires
 all_nodes-requires g c =
@@ -203,3 +203,45 @@ all_nodes-requires g c =
           (record { measures = length c.args.schema.now.measures; rows = rows_of c.args.cube.now.table }))
           (sym kept.width) kept.from,
     )
+
+pub returns-in-Some-clause-same : goal.returns-in-Some-clause-same
+returns-in-Some-clause-same g c = refl
+
+pub returns-in-Some-clause-parts : goal.returns-in-Some-clause-parts
+returns-in-Some-clause-parts g c = c.requires.parts
+
+pub returns-in-Some-clause-images : goal.returns-in-Some-clause-images
+returns-in-Some-clause-images g c = c.requires.images
+
+pub returns-in-Err-clause-same : goal.returns-in-Err-clause-same
+returns-in-Err-clause-same g c = refl
+
+pub returns-in-Err-clause-parts : goal.returns-in-Err-clause-parts
+returns-in-Err-clause-parts g c = c.requires.parts
+
+pub returns-in-Err-clause-images : goal.returns-in-Err-clause-images
+returns-in-Err-clause-images g c = c.requires.images
+
+pub with_dim-requires-clause-few : goal.with_dim-requires-clause-few
+with_dim-requires-clause-few g c = dims-free _ _ _ (sym c.in_default.is ∙ c.widen_refusal.ensures)
+
+pub with_dim-requires-clause-new : goal.with_dim-requires-clause-new
+with_dim-requires-clause-new g c = c.requires.name
+
+pub returns-in-Err-with_dim-clause-same : goal.returns-in-Err-with_dim-clause-same
+returns-in-Err-with_dim-clause-same g c = refl
+
+pub returns-in-Err-with_dim-clause-parts : goal.returns-in-Err-with_dim-clause-parts
+returns-in-Err-with_dim-clause-parts g c = c.requires.parts
+
+pub returns-in-Err-with_dim-clause-images : goal.returns-in-Err-with_dim-clause-images
+returns-in-Err-with_dim-clause-images g c = c.requires.images
+
+pub widen_parts-requires-clause-nodes : goal.widen_parts-requires-clause-nodes
+widen_parts-requires-clause-nodes g c = c.in-Ok.ensures.nodes
+
+pub returns-in-Err-widen_parts-clause-images : goal.returns-in-Err-widen_parts-clause-images
+returns-in-Err-widen_parts-clause-images g c = c.widen_parts.ensures.closed.images
+
+pub returns-clause-images : goal.returns-clause-images
+returns-clause-images g c = c.widen_parts.ensures.closed.images

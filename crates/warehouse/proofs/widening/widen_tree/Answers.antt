@@ -82,3 +82,18 @@ returns-clause-kept g c =
     subst (λ n. KeepsWidened n before c.places.tree.now) c.dims-dim.ensures.value
     (arrives c.dims-dim.result c.places.place before c.places.tree.now c.args.nodes.now.items c.places.nodes.items
     c.requires.nodes (omega (arith, c.places-test.false, c.len-place-end.ensures)) c.places.invariant.way)
+
+pub widen-requires-clause-opened : goal.widen-requires-clause-opened
+widen-requires-clause-opened g c = c.requires.opened
+
+pub widen-requires-clause-untouched : goal.widen-requires-clause-untouched
+widen-requires-clause-untouched g c = c.requires.untouched
+
+pub widen-requires-clause-few : goal.widen-requires-clause-few
+widen-requires-clause-few g c = c.requires.few
+
+pub returns-in-Err-clause-frame : goal.returns-in-Err-clause-frame
+returns-in-Err-clause-frame g c = c.move_class.ensures.frame ∙ c.places.invariant.frame
+
+pub returns-clause-frame : goal.returns-clause-frame
+returns-clause-frame g c = c.places.invariant.frame
