@@ -1,4 +1,4 @@
-use Rattle.std.proofs.Common.{◌≡◌, ◌≤◌, ◌+◌, ◌∙◌, Err, List, [], Ok, Result, ap, arith, length, map, nat_eq, refl, subst, sym, true}
+use Rattle.std.proofs.Common.{false, ◌≡◌, ◌≤◌, ◌+◌, ◌∙◌, Err, List, [], Ok, Result, ap, arith, length, map, nat_eq, refl, subst, sym, true}
 use Rattle.std.proofs.lemmas.List.{nil_from_length}
 use Rattle.std.proofs.lemmas.Result.{on_ok_weaker}
 use Rattle.std.specs.Prelude.{IfSome}
@@ -165,3 +165,18 @@ same-self-in-Ok g c = refl
 
 pub same-self-in-Err : goal.same-self-in-Err
 same-self-in-Err g c = refl
+
+pub returns-then-count-ne0-clause-gives : goal.returns-then-count-ne0-clause-gives
+returns-then-count-ne0-clause-gives g c =
+    let inside = c.self.inside in
+    let state = ap (λ (w : Contents). w.state) (c.self.view_is ∙ c.drop_images.ensures.rest) in
+    let some : nat_eq (length (decoded_rows inside.cube.dict.lists inside.cube.table)) 0 ≡ false
+    = grind (
+      arith,
+      length-rows inside.cube.dict.lists (rows_of inside.cube.table),
+      c.count.ensures.value,
+      c.if-count-ne0.true,
+    ) in
+    let there : nat_eq (length c.args.self.now.state.rows) 0 ≡ false
+    = subst (λ (s : State). nat_eq (length s.rows) 0 ≡ false) state some in
+    rw there refl
