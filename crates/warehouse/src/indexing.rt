@@ -199,8 +199,5 @@ pub(crate) fn change_index(
         Ok(added) => added,
         Err(error) => return Err(error),
     };
-    match index.change(&added, &removed) {
-        Ok(()) => Ok(()),
-        Err(error) => Err(error),
-    }
+    index.change(&added, &removed)
 }

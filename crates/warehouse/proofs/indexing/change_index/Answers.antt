@@ -6,6 +6,7 @@ use Rattle.cube_defs.specs.Rows as defs
 use Rattle.measure_index.specs.Entries.{HaveMeasure}
 use Rattle.measure_index.specs.Rankings.{IsIndex}
 use Rattle.qc_arena.specs.Changes.{AreNew, class_now, class_was}
+use Rattle.warehouse.proofs.Deletions.{ok-then}
 use Rattle.warehouse.proofs.Indexed.{IsBegun, begun, measured}
 use Rattle.warehouse.proofs.indexing.change_index.Goals as goal
 
@@ -30,21 +31,21 @@ change-requires-clause-remove c =
     (subst (λ (class : ℕ → Option defs.Agg). AreNew (class_now tree) class c.in-Ok.removed.items) b.was
     c.in-Ok.ensures))
 
-pub returns-in-Ok-change-clause-indexed : goal.returns-in-Ok-change-clause-indexed
-returns-in-Ok-change-clause-indexed c =
+pub returns-clause-indexed : goal.returns-clause-indexed
+returns-clause-indexed c =
     let tree = c.args.tree.now in
     let b : IsBegun c.args.schema.now tree c.args.index.now
     = begun c.args.schema.now tree c.args.index.now c.requires.opened c.requires.before in
-    record {
+    ok-then c.change.result (λ classes. record {
       classes =
-          c.in-Ok-change.ensures.classes (class_was tree) (class_now tree)
+          classes (class_was tree) (class_now tree)
           (subst (λ (ps : List (NodeNo × Agg)). AreNew (class_was tree) (class_now tree) ps)
           (sym c.deref.ensures.value) c.in-Ok-classes_added.ensures)
           (subst (λ (ps : List (NodeNo × Agg)). AreNew (class_now tree) (class_was tree) ps)
           (sym c.deref-2.ensures.value) c.in-Ok.ensures)
           (subst (λ (class : ℕ → Option defs.Agg). IsIndex class c.args.index.now) (sym b.was) b.indexed.classes);
       kinds = c.change.ensures.units ∙ b.indexed.kinds;
-    }
+    }) c.change.ensures.classes
 
 pub returns-in-Err-clause-err : goal.returns-in-Err-clause-err
 returns-in-Err-clause-err c = refl
