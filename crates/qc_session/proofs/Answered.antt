@@ -1,13 +1,19 @@
 -- What holds of an answer, where there is one.
 use Rattle.std.proofs.Common.{◌≡◌, ◌≢◌, ℕ, Option, Some, None, List, refl, true}
 use Rattle.std.specs.Prelude.{Err, IfSome, Ok, OnErr, OnOk, Result}
+use Rattle.std.specs.Option.{option_map}
 use Rattle.cell_core.specs.declared.fields.Field.{Field}
+use Rattle.cube_defs.specs.Text.{Text}
 use Rattle.qc_io.specs.Outside.{FileContents}
 use Rattle.query_answers.specs.Queries.{cell_of_fields, point_answer}
 use Rattle.query_script.specs.Commands.{command_in, query_wants}
+use Rattle.query_script.specs.Faults.{LineFault, line_fault_in}
 use Rattle.query_script.specs.Queries as queries
 use Rattle.query_script.specs.Queries.{Point, Query}
 use Rattle.query_script.specs.Questions.{Ask}
+use Rattle.query_script.specs.declared.line.LineRefused.{LineRefused}
+use Rattle.query_script.specs.declared.line.LineRefused.TheVariants as refusals
+use Rattle.reply_text.specs.Replies.{line_texts, refused_text}
 use Rattle.qc_session.specs.Answers.{answer}
 use Rattle.qc_session.specs.Pins.{PinnedState, unchanged_with_pins}
 
@@ -41,3 +47,23 @@ wants-all (Err e) query other = by query other
     by : (query : Query) → query ≢ queries.Stats → query_wants query ≡ true
     by queries.Stats other = absurd (other refl)
     by query other = refl
+
+-- a line with a fault is refused
+pub fault-answered : (told : Option FileContents) (s : PinnedState) (line : List ℕ) (number : ℕ) (fault : Option LineFault)
+    (words : List Text) (reply : List ℕ) → Some words ≡ option_map line_texts fault
+    → IfSome fault (λ f. command_in s.state.schema line ≡ Err f) → reply ≡ refused_text number words
+    → IfSome told (λ t. answer s t number line ≡ Some (record { state = s; reply = reply }))
+fault-answered None s line number fault words reply texts read is = tt
+fault-answered (Some t) s line number None words reply texts read is = absurd (cc)
+fault-answered (Some t) s line number (Some f) words reply texts read is = rw (read, is, same texts) refl
+  where
+    same : {x y : List Text} → Some x ≡ Some y → x ≡ y
+    same e = cc
+
+-- a line that isn't read, and has no fault, lacks memory
+pub memory-alone : (e : LineRefused) → None ≡ option_map line_texts (line_fault_in e) → e ≡ refusals.Memory
+memory-alone refusals.Utf8 texts = absurd (cc)
+memory-alone refusals.Command texts = absurd (cc)
+memory-alone (refusals.Field k) texts = absurd (cc)
+memory-alone refusals.Number texts = absurd (cc)
+memory-alone refusals.Memory texts = refl

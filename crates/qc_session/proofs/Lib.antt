@@ -7,6 +7,7 @@ mod Ended
 mod FileNamed
 mod FileUses
 mod FileWords
+mod FixedTexts
 mod Found
 mod FlushLemmas
 mod Named

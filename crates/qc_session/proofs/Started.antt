@@ -1,10 +1,24 @@
 -- The state at which a run starts, by what its first file gives.
-use Rattle.std.proofs.Common.{◌≡◌, ◌⊎◌, List, Option, Some, None, IfSome, inl, inr, ℕ}
+use Rattle.std.proofs.Common.{◌≡◌, ◌≤◌, ◌⊎◌, List, Option, Some, None, IfSome, inl, inr, length, ℕ}
+use Rattle.std.specs.Prelude.{◌↔◌}
+use Rattle.cube_defs.specs.declared.limits.TheConstants.{MAX_FILE}
 use Rattle.qc_io.specs.Outside.{FileContents}
 use Rattle.warehouse.specs.State.{State}
 use Rattle.qc_session.specs.Forms.{FileNames, FromSchema, FromSnapshot, Source}
 use Rattle.qc_session.specs.Runs.{Begins, BeginsNot, CannotRead, CannotWrite, Cause, HasNoStart, IsNever, IsScriptOf, IsStartOf}
 use Rattle.qc_session.specs.Runs.{LongSnapshot, NoSchema, NoSnapshot, OutOfMemory, ReadFails, TooLong, Usage}
+
+-- a file that is read
+pub script-read : (told : Option FileContents) (name bytes : List ℕ) → IfSome told (λ t. t name ≡ Some bytes)
+    → length bytes ≤ MAX_FILE → IfSome told (λ t. IsScriptOf t name bytes)
+script-read None name bytes read within = tt
+script-read (Some t) name bytes read within = record { is_told = read; within = within }
+
+-- one that failed isn't told, where the files are steady
+pub unread-name : (told : Option FileContents) (name : List ℕ) (Sure Failed : Type 0) → Failed
+    → (Sure → IfSome told (λ t. Failed ↔ (t name ≡ None))) → IfSome told (λ t. Sure → t name ≡ None)
+unread-name None name Sure Failed failed h = tt
+unread-name (Some t) name Sure Failed failed h = λ sure. (h sure).0 failed
 
 -- the first file is read and tells a start
 pub started : (told : Option FileContents) (names : FileNames) (bytes : List ℕ) (start : State)

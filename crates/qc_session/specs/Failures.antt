@@ -29,3 +29,10 @@ TellsFault refused text = IfSome (schema_fault_in refused) (λ fault. text ≡ r
 abbrev pub TellsSchema : Failure → List ℕ → Type 0
 TellsSchema (failures.NoSchema refused) text = TellsFault refused text
 TellsSchema failure text = ⊤
+
+-- the whole line, where nothing in it differs
+abbrev pub TellsFixed : Failure → List ℕ → Type 0
+TellsFixed (failures.CannotRead name) text = ⊤
+TellsFixed (failures.NoSchema refused) text = ⊤
+TellsFixed (failures.TooLong name) text = ⊤
+TellsFixed failure text = text ≡ runs.error_text (cause_of failure)

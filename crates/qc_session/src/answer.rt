@@ -1,5 +1,5 @@
 // The answer to one line.
-ghost use Rattle.std.specs.Prelude.{Err, IfErr, IsErr, IfOk, IfSome, IsTrue, None, Ok, OnErr, OnOk, Some, length, option_map, true, ⊤, ◌≡◌, ◌≢◌, ◌≤◌, ◌+◌};
+ghost use Rattle.std.specs.Prelude.{Err, IfErr, IsErr, IfOk, IfSome, IsTrue, None, Ok, OnErr, OnOk, Some, length, option_map, true, ⊤, ◌≡◌, ◌≤◌};
 ghost use Rattle.csv_load.specs.Files.{batch_in};
 ghost use Rattle.cube_defs.specs.declared.limits.TheConstants.{MAX_FILE};
 ghost use Rattle.qc_io.specs.Outside.{Rose, FileContents};
@@ -14,10 +14,6 @@ ghost use Rattle.qc_session.specs.Answers.{answer, answer_to, with_pins, change_
 ghost use Rattle.qc_session.specs.Costs.{IsWithin, bytes_cost, line_cost, question_cost, taken_bytes_cost};
 ghost use Rattle.qc_session.specs.Pins.{pinned_state_in};
 ghost use Rattle.qc_session.specs.Reading.{FilesStay};
-ghost use Rattle.query_answers.specs.Queries.{names_kind, query_cost, query_reply};
-ghost use Rattle.query_script.specs.Commands.{IsQuery};
-ghost use Rattle.query_script.specs.Queries as queries;
-ghost use Rattle.query_script.specs.Queries.{query_in};
 
 use self::FileUse::{Apply, Load, Try};
 use crate::pins::{answer_at, answer_pin, answer_unpin};
@@ -27,7 +23,7 @@ use cube_defs::MAX_FILE;
 use pinned_view::Pinned;
 use qc_io::{Files, ReadRefused, read_all};
 use query_answers::answer_present;
-use query_script::{Command, Query, read_line};
+use query_script::{Command, read_line};
 use reply_text::{
     Reply, ShortReply, applied_reply, file_refusal, line_refusal, refused, size_refusal,
 };
@@ -53,17 +49,6 @@ pub enum LineStop {
     Memory,
     /// The file of this name couldn't be read.
     Fault(Text),
-}
-
-impl From<AllocError> for LineStop {
-    ghost use Rattle.std.specs.Prelude.{◌≡◌};
-    ghost use Rattle.qc_session.specs.declared.answer.LineStop.TheVariants as stops;
-
-    ghost from_gives = { λ _ stop. stop ≡ stops.Memory };
-
-    fn from(_: AllocError) -> Self {
-        LineStop::Memory
-    }
 }
 
 ghost use Rattle.qc_session.specs.Stops.{MatchLineStop, kind_in, answer_by_use, state_by_use};
@@ -199,50 +184,31 @@ fn answer_file<F: Files, L: Ledger>(
     }
 }
 
-// Answers a query of the present rows.
-fn present_reply<L: Ledger>(
-    alloc: Global,
-    pinned: &Pinned,
-    number: u32,
-    query: Query,
-    steps: &mut Steps<L>,
-) -> Result<Reply, Memory>
-    requires { IsQuery pinned.now.now.state.schema (query_in query) }
-    ensures reply { IfOk result
-        (λ reply. reply_bytes reply ≡ query_reply pinned.now.now.state number (query_in query)) }
-    ensures memory { OnErr result (query_in query ≢ queries.Stats) }
-    ensures steps { OnOk result
-        (steps.new ≤ steps.old + query_cost pinned.now.now.state
-        (names_kind pinned.now.now.state.schema) (query_in query)) }
-{
-    answer_present(alloc, pinned.now(), number, &query, steps)
-}
-
 // Carries out a command that names no file, and makes its reply.
 fn answer_without_file<L: Ledger>(
     alloc: Global,
     pinned: &mut Pinned,
     number: u32,
-    command: Command,
+    command: &Command,
     steps: &mut Steps<L>,
 ) -> Result<Reply, Memory>
-    requires question { IsQuestion pinned.old.now.state.schema (question_in command) }
-    requires unnamed { file_named (Ok (question_in command)) ≡ None }
+    requires question { IsQuestion pinned.old.now.state.schema (question_in command.now) }
+    requires unnamed { file_named (Ok (question_in command.now)) ≡ None }
     ensures same { OnErr result (pinned.new ≡ pinned.old) }
-    ensures memory { OnErr result (wants_memory (question_in command) ≡ true) }
+    ensures memory { OnErr result (wants_memory (question_in command.now) ≡ true) }
     ensures answered { IfOk result (λ reply. (t : FileContents)
-        → answer_to (pinned_state_in pinned.old) t number (Ok (question_in command))
+        → answer_to (pinned_state_in pinned.old) t number (Ok (question_in command.now))
         ≡ Some (record { state = pinned_state_in pinned.new; reply = reply_bytes reply })) }
     ensures steps { OnOk result ((t : FileContents)
-        → IsWithin (question_cost (pinned_state_in pinned.old) t (Ok (question_in command)))
+        → IsWithin (question_cost (pinned_state_in pinned.old) t (Ok (question_in command.now)))
         steps.old steps.new) }
 {
     match command {
-        Command::Widen(name, value) => answer_widen(pinned, number, &name, &value, steps),
-        Command::Pin(name) => Ok(Reply::Short(answer_pin(pinned, number, &name))),
-        Command::Unpin(name) => Ok(Reply::Short(answer_unpin(pinned, number, &name))),
-        Command::At(name, query) => answer_at(alloc, pinned, number, &name, query, steps),
-        Command::Ask(query) => present_reply(alloc, pinned, number, query, steps),
+        Command::Widen(name, value) => answer_widen(pinned, number, name, value, steps),
+        Command::Pin(name) => Ok(Reply::Short(answer_pin(pinned, number, name))),
+        Command::Unpin(name) => Ok(Reply::Short(answer_unpin(pinned, number, name))),
+        Command::At(name, query) => answer_at(alloc, pinned, number, name, query, steps),
+        Command::Ask(query) => answer_present(alloc, pinned.now(), number, query, steps),
         Command::Load(_) | Command::Apply(_) | Command::Try(_) => unreachable!(),
     }
 }
@@ -287,10 +253,14 @@ fn answer_command<F: Files, L: Ledger>(
             let line = FileLine { kind: Try, name };
             answer_file(alloc, files, pinned, number, line, steps)
         }
-        other => match answer_without_file(alloc, pinned, number, other, steps) {
-            Ok(reply) => Ok(reply),
-            Err(_) => Err(LineStop::Memory),
-        },
+        other => {
+            let reply = answer_without_file(alloc, pinned, number, &other, steps);
+            drop(other);
+            match reply {
+                Ok(reply) => Ok(reply),
+                Err(_) => Err(LineStop::Memory),
+            }
+        }
     }
 }
 

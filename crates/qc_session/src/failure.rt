@@ -29,7 +29,7 @@ pub enum Failure<'a> {
     TooLong(&'a str),
 }
 
-ghost use Rattle.qc_session.specs.Failures.{TellsFault, TellsSchema, cause_of};
+ghost use Rattle.qc_session.specs.Failures.{TellsFault, TellsFixed, TellsSchema, cause_of};
 
 fn cause_word(cause: SchemaCause) -> &'static str
     ensures text { result.now ≡ cause_text cause }
@@ -63,16 +63,6 @@ fn schema_fault_text(refused: SchemaRefused) -> ArrayString<32>
     text
 }
 
-impl<'a> From<SchemaRefused> for Failure<'a> {
-    ghost use Rattle.qc_session.specs.declared.failure.Failure.TheVariants as failures;
-
-    ghost from_gives = { λ refused failure. failure ≡ failures.NoSchema refused };
-
-    fn from(refused: SchemaRefused) -> Self {
-        Failure::NoSchema(refused)
-    }
-}
-
 impl<'a> Failure<'a> {
     /// The status with which the run ends.
     pub fn status(&self) -> u8
@@ -100,26 +90,34 @@ impl<'a> Failure<'a> {
         }
     }
 
+    // The line for the failure, if nothing in it differs.
+    fn fixed_text(&self) -> &'static str
+        ensures { TellsFixed self.now result.now }
+    {
+        match self {
+            Failure::Usage => {
+                "usage: qcube run SCHEMA SCRIPT | qcube gen ROWS SEED | qcube pack SCHEMA SCRIPT \
+                 | qcube open SNAPSHOT SCRIPT\n"
+            }
+            Failure::CannotWrite => "qcube: cannot write\n",
+            Failure::OutOfMemory => "qcube: out of memory\n",
+            Failure::NoSnapshot => "qcube: snapshot refused\n",
+            Failure::LongSnapshot => "qcube: snapshot is too long\n",
+            Failure::CannotRead(_) | Failure::NoSchema(_) | Failure::TooLong(_) => "",
+        }
+    }
+
     // The line for the failure, in three parts.
     fn parts<'b>(&'b self, schema_text: &'b str) -> (&'b str, &'b str, &'b str)
         requires { TellsSchema self.now schema_text.now }
         ensures { result.0.now ++ (result.1.now ++ result.2.now) ≡ error_text (cause_of self.now) }
     {
         match self {
-            Failure::Usage => (
-                "usage: qcube run SCHEMA SCRIPT | qcube gen ROWS SEED | qcube pack SCHEMA SCRIPT \
-                 | qcube open SNAPSHOT SCRIPT\n",
-                "",
-                "",
-            ),
             Failure::CannotRead(name) => ("qcube: cannot read ", name, "\n"),
-            Failure::CannotWrite => ("qcube: cannot write\n", "", ""),
-            Failure::OutOfMemory => ("qcube: out of memory\n", "", ""),
             Failure::NoSchema(SchemaRefused::Memory) => ("qcube: out of memory\n", "", ""),
             Failure::NoSchema(_) => ("qcube: schema ", schema_text, "\n"),
-            Failure::NoSnapshot => ("qcube: snapshot refused\n", "", ""),
-            Failure::LongSnapshot => ("qcube: snapshot is too long\n", "", ""),
             Failure::TooLong(name) => ("qcube: ", name, " is too long\n"),
+            _ => (self.fixed_text(), "", ""),
         }
     }
 }
@@ -132,8 +130,7 @@ fn write_parts<E: Sink>(err: &mut E, front: &str, name: &str, back: &str) -> Res
 {
     write_all(err, front.as_bytes())?;
     write_all(err, name.as_bytes())?;
-    write_all(err, back.as_bytes())?;
-    Ok(())
+    write_all(err, back.as_bytes())
 }
 
 /// Writes the line for a failure. If a write fails, nothing more is written.

@@ -54,21 +54,19 @@ pub fn answer_at<L: Ledger>(
     held: &Pinned,
     number: u32,
     name: &Text,
-    query: Query,
+    query: &Query,
     steps: &mut Steps<L>,
 ) -> Result<Reply, Memory>
-    requires { IsQuery held.now.now.state.schema (query_in query) }
+    requires { IsQuery held.now.now.state.schema (query_in query.now) }
     ensures reply { IfOk result (λ reply. reply_bytes reply ≡ at_reply (pinned_state_in held.now)
-        number name.now (query_in query)) }
+        number name.now (query_in query.now)) }
     ensures steps { OnOk result (steps.new ≤ steps.old + cost_over held.now.now.state
-        (query_in query) (rows_at (pinned_state_in held.now).pins name.now)) }
+        (query_in query.now) (rows_at (pinned_state_in held.now).pins name.now)) }
 {
     let Some(view) = held.view(name.as_str()) else {
-        drop(query);
         return Ok(Reply::Short(refused(number, not_pinned_refusal())));
     };
     let Ok(index) = empty_index(alloc) else {
-        drop(query);
         return Err(AllocError);
     };
     let source = Source {
@@ -77,8 +75,7 @@ pub fn answer_at<L: Ledger>(
         index: &index,
         counts: view.stats(),
     };
-    let reply = answer_query(alloc, &source, number, &query, steps);
+    let reply = answer_query(alloc, &source, number, query, steps);
     drop(index);
-    drop(query);
     reply
 }

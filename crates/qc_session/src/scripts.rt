@@ -58,14 +58,14 @@ ghost use Rattle.qc_session.specs.Session.{IfStop};
 ghost use Rattle.qc_session.specs.Words.{names_in, source_in};
 
 // Ends a run before its first line.
-fn fail<E: Sink>(alloc: Global, err: &mut E, failure: &Failure<'_>) -> Outcome
-    ensures status { result.status ≡ status_of (cause_of failure.now) }
+fn fail<E: Sink>(alloc: Global, err: &mut E, failure: Failure<'_>) -> Outcome
+    ensures status { result.status ≡ status_of (cause_of failure.entry) }
     ensures skipped { result.skipped.items ≡ [] }
-    ensures said { HasReported (Rose (E.faults err.old) (E.faults err.new)) (cause_of failure.now)
+    ensures said { HasReported (Rose (E.faults err.old) (E.faults err.new)) (cause_of failure.entry)
         (E.taken err.old) (E.taken err.new) }
     ensures hands { ReturnsWarehouse result }
 {
-    report(err, failure);
+    report(err, &failure);
     Outcome {
         status: failure.status(),
         skipped: Vec::new(alloc),
@@ -299,7 +299,7 @@ fn run_script<F: Files, O: Sink, E: Sink, L: Ledger>(
     let Loaded { start, script } = loaded;
     let script = trim_byte_order_mark(&script);
     let Ok(mut session) = begin(alloc, start, script) else {
-        return fail(alloc, err, &Failure::OutOfMemory);
+        return fail(alloc, err, Failure::OutOfMemory);
     };
     match take_lines(alloc, files, out, &mut session, script, steps) {
         Ok(()) => finished(session),
@@ -339,7 +339,7 @@ fn run_generated<O: Sink, E: Sink, L: Ledger>(
     ensures hands { ReturnsWarehouse result }
 {
     let Ok(generated) = generate(alloc, rows, seed, steps) else {
-        return fail(alloc, err, &Failure::OutOfMemory);
+        return fail(alloc, err, Failure::OutOfMemory);
     };
     let text = generated.text;
     let warehouse = generated.warehouse;
@@ -347,7 +347,7 @@ fn run_generated<O: Sink, E: Sink, L: Ledger>(
         Ok(()) => generated_outcome(alloc, warehouse),
         Err(_) => {
             warehouse.discard();
-            fail(alloc, err, &Failure::CannotWrite)
+            fail(alloc, err, Failure::CannotWrite)
         }
     }
 }
@@ -370,16 +370,16 @@ fn pack_finished<O: Sink, E: Sink>(
             Ok(()) => generated_outcome(alloc, warehouse),
             Err(_) => {
                 warehouse.discard();
-                fail(alloc, err, &Failure::CannotWrite)
+                fail(alloc, err, Failure::CannotWrite)
             }
         },
         Err(EncodeRefused::TooLong) => {
             warehouse.discard();
-            fail(alloc, err, &Failure::LongSnapshot)
+            fail(alloc, err, Failure::LongSnapshot)
         }
         Err(EncodeRefused::Memory) => {
             warehouse.discard();
-            fail(alloc, err, &Failure::OutOfMemory)
+            fail(alloc, err, Failure::OutOfMemory)
         }
     }
 }
@@ -396,8 +396,8 @@ fn pack_stopped<E: Sink>(alloc: Global, err: &mut E, stop: SilentStop) -> Outcom
     ensures hands { ReturnsWarehouse result }
 {
     match stop {
-        SilentStop::Read(name) => fail(alloc, err, &Failure::CannotRead(name.as_str())),
-        SilentStop::Memory => fail(alloc, err, &Failure::OutOfMemory),
+        SilentStop::Read(name) => fail(alloc, err, Failure::CannotRead(name.as_str())),
+        SilentStop::Memory => fail(alloc, err, Failure::OutOfMemory),
     }
 }
 
@@ -422,7 +422,7 @@ fn pack_script<F: Files, O: Sink, E: Sink, L: Ledger>(
     let Loaded { start, script } = loaded;
     let script = trim_byte_order_mark(&script);
     let Ok(mut session) = begin(alloc, start, script) else {
-        return fail(alloc, err, &Failure::OutOfMemory);
+        return fail(alloc, err, Failure::OutOfMemory);
     };
     match run_silently(alloc, files, &mut session, script, steps) {
         Ok(()) => pack_finished(alloc, out, err, session.pinned.finish()),
@@ -459,7 +459,7 @@ fn pack_files<F: Files, O: Sink, E: Sink, L: Ledger>(
 {
     match read_files::<F, Brand>(alloc, input.keys, files, input.names, Blank::new(1)) {
         Ok(loaded) => pack_script(alloc, files, out, err, loaded, steps),
-        Err(failure) => fail(alloc, err, &failure),
+        Err(failure) => fail(alloc, err, failure),
     }
 }
 
@@ -486,7 +486,7 @@ fn run_files<F: Files, O: Sink, E: Sink, L: Ledger>(
 {
     match read_files::<F, Brand>(alloc, input.keys, files, input.names, Blank::new(1)) {
         Ok(loaded) => run_script(alloc, files, out, err, loaded, steps),
-        Err(failure) => fail(alloc, err, &failure),
+        Err(failure) => fail(alloc, err, failure),
     }
 }
 
@@ -521,7 +521,7 @@ fn run_request<F: Files, O: Sink, E: Sink, L: Ledger>(
         Form::Run(names) => run_files(alloc, files, out, err, Input { keys, names }, steps),
         Form::Pack(names) => pack_files(alloc, files, out, err, Input { keys, names }, steps),
         Form::Gen(rows, seed) => run_generated(alloc, out, err, rows, seed, steps),
-        Form::Invalid => fail(alloc, err, &Failure::Usage),
+        Form::Invalid => fail(alloc, err, Failure::Usage),
     }
 }
 

@@ -6,17 +6,36 @@ use Rattle.qc_session.proofs.Answered.{for_told}
 use Rattle.qc_session.proofs.Costs.{file-within}
 use Rattle.qc_session.proofs.NoFile.{names-none}
 use Rattle.qc_session.proofs.Stopped.{fault-named, memory-wanted}
+use Rattle.qc_session.proofs.Taken.{stay-same}
 use Rattle.qc_session.proofs.answer.answer_command.Goals as goal
 
-pub answer_without_file-requires-clause-unnamed : goal.answer_without_file-requires-clause-unnamed
-answer_without_file-requires-clause-unnamed g c
+pub answer_without_file-reply-requires-clause-unnamed : goal.answer_without_file-reply-requires-clause-unnamed
+answer_without_file-reply-requires-clause-unnamed g c
     = names-none c.args.command c.in_default.not-Load c.in_default.not-Apply c.in_default.not-Try
 
-pub returns-in-Ok-clause-answered : goal.returns-in-Ok-clause-answered
-returns-in-Ok-clause-answered g c = for_told (g.F.Files.told c.args.files.now) _ c.in-Ok.ensures.answered
+pub returns-in-Ok : goal.returns-in-Ok
+returns-in-Ok g c =
+    let told = g.F.Files.told c.args.files.now in
+    record {
+      stay = stay-same _ _ _;
+      same = tt;
+      memory = tt;
+      fault = tt;
+      untold = tt;
+      answered = for_told told _ c.in-Ok.ensures.answered;
+      steps = for_told told _ c.in-Ok.ensures.steps;
+    }
 
-pub returns-in-Ok-clause-steps : goal.returns-in-Ok-clause-steps
-returns-in-Ok-clause-steps g c = for_told (g.F.Files.told c.args.files.now) _ c.in-Ok.ensures.steps
+pub returns-in-Err : goal.returns-in-Err
+returns-in-Err g c = record {
+  stay = stay-same _ _ _;
+  same = rw c.in-Err.ensures.same refl;
+  memory = c.in-Err.ensures.memory;
+  fault = tt;
+  untold = tt;
+  answered = tt;
+  steps = tt;
+}
 
 pub returns-in-Load : goal.returns-in-Load
 returns-in-Load g c =

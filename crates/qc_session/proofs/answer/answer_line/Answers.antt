@@ -1,4 +1,4 @@
-use Rattle.std.proofs.Common.{Ok, ap, true, ◌≡◌}
+use Rattle.std.proofs.Common.{Ok, ap, refl, true, ◌≡◌}
 use Rattle.std.proofs.lemmas.Result.{IfErr-weaker}
 use Rattle.qc_io.specs.Outside.{Rose}
 use Rattle.query_script.specs.Commands.{command_in, wants_memory}
@@ -7,8 +7,11 @@ use Rattle.query_script.specs.Questions.{question_in}
 use Rattle.query_script.specs.Faults.{line_fault_in}
 use Rattle.reply_text.specs.Replies.{line_texts}
 use Rattle.qc_session.specs.Answers.{file_named, file_of}
+use Rattle.qc_session.specs.Pins.{pinned_state_in}
+use Rattle.qc_session.proofs.Answered.{fault-answered, memory-alone}
 use Rattle.qc_session.proofs.Costs.{fault-within}
 use Rattle.qc_session.proofs.Stopped.{fault-alone, line-skips}
+use Rattle.qc_session.proofs.Taken.{stay-same}
 use Rattle.qc_session.proofs.answer.answer_line.Goals as goal
 
 pub returns-in-Ok : goal.returns-in-Ok
@@ -31,7 +34,31 @@ returns-in-Ok g c =
       steps = rw gives e.steps;
     }
 
-pub returns-in-Some-clause-steps : goal.returns-in-Some-clause-steps
-returns-in-Some-clause-steps g c = fault-within (g.F.Files.told c.args.files.now) _ c.args.line.now c.args.steps.now
-    (line_fault_in c.in-Err.cause) line_texts _ c.in-Some.ensures.texts
-    (rw (c.schema.ensures.value, c.now.ensures.value) at c.in-Err.ensures.gives)
+pub returns-in-Some : goal.returns-in-Some
+returns-in-Some g c =
+    let told = g.F.Files.told c.args.files.now in
+    let state = pinned_state_in c.args.pinned.now in
+    let gives = rw (c.schema.ensures.value, c.now.ensures.value) at c.in-Err.ensures.gives in
+    let texts = c.in-Some.ensures.texts in
+    let fault = line_fault_in c.in-Err.cause in
+    record {
+      stay = stay-same _ _ _;
+      same = tt;
+      skips = tt;
+      fault = tt;
+      untold = tt;
+      answered = fault-answered told state c.args.line.now c.args.number fault _ c.refused.result texts gives
+          c.refused.ensures;
+      steps = fault-within told state c.args.line.now c.args.steps.now fault line_texts _ texts gives;
+    }
+
+pub returns-in-None : goal.returns-in-None
+returns-in-None g c = record {
+  stay = stay-same _ _ _;
+  same = refl;
+  skips = c.in-Err.ensures.memory (memory-alone c.in-Err.cause c.in-None.ensures.texts);
+  fault = tt;
+  untold = tt;
+  answered = tt;
+  steps = tt;
+}

@@ -17,7 +17,7 @@ returns-in_default g c =
       reply =
           c.refused.ensures
           ∙ ap (λ (texts : List Text). refused_text c.args.number texts) c.not_pinned_refusal.ensures.texts
-          ∙ sym (at-none c.args.held.now c.args.number c.args.name.now (query_in c.args.query) found);
+          ∙ sym (at-none c.args.held.now c.args.number c.args.name.now (query_in c.args.query.now) found);
       steps = rw (rows-of c.args.held.now.pins c.args.name.now, found) (omega arith);
     }
 
@@ -45,7 +45,7 @@ returns g c =
     let state = with_rows c.args.held.now.now.state version.rows in
     let steps = rw c.now.ensures.value at (c.answer_query-reply.ensures.steps version.rows has) in
     record {
-      reply = rw (at-version c.args.held.now c.args.number c.args.name.now (query_in c.args.query) version found) reply;
+      reply = rw (at-version c.args.held.now c.args.number c.args.name.now (query_in c.args.query.now) version found) reply;
       steps = rw (rows-of c.args.held.now.pins c.args.name.now, found) (on_ok_weaker c.answer_query-reply.result
-          (bare-within state _ (λ kind. ap is_some (c.in-Ok.ensures.kinds kind)) (query_in c.args.query) _ _) steps);
+          (bare-within state _ (λ kind. ap is_some (c.in-Ok.ensures.kinds kind)) (query_in c.args.query.now) _ _) steps);
     }
