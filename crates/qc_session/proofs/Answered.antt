@@ -1,6 +1,6 @@
 -- What holds of an answer, where there is one.
-use Rattle.std.proofs.Common.{◌≡◌, ◌≢◌, ℕ, Option, Some, None, List, refl, true}
-use Rattle.std.specs.Prelude.{Err, IfSome, Ok, OnErr, OnOk, Result}
+use Rattle.std.proofs.Common.{◌≡◌, ◌≢◌, ℕ, Option, Some, None, List, refl, subst, sym, true}
+use Rattle.std.specs.Prelude.{Err, IfOk, IfSome, Ok, OnErr, OnOk, Result}
 use Rattle.std.specs.Option.{option_map}
 use Rattle.cell_core.specs.declared.fields.Field.{Field}
 use Rattle.cube_defs.specs.Text.{Text}
@@ -10,11 +10,13 @@ use Rattle.query_script.specs.Commands.{command_in, query_wants}
 use Rattle.query_script.specs.Faults.{LineFault, line_fault_in}
 use Rattle.query_script.specs.Queries as queries
 use Rattle.query_script.specs.Queries.{Point, Query}
-use Rattle.query_script.specs.Questions.{Ask}
+use Rattle.query_script.specs.Questions.{Ask, Question}
 use Rattle.query_script.specs.declared.line.LineRefused.{LineRefused}
 use Rattle.query_script.specs.declared.line.LineRefused.TheVariants as refusals
 use Rattle.reply_text.specs.Replies.{line_texts, refused_text}
-use Rattle.qc_session.specs.Answers.{answer}
+use Rattle.reply_text.specs.Words.{reply_bytes}
+use Rattle.reply_text.specs.declared.short.Reply.{Reply}
+use Rattle.qc_session.specs.Answers.{answer, answer_to}
 use Rattle.qc_session.specs.Pins.{PinnedState, unchanged_with_pins}
 
 pub on-ok : {T E : Type 0} (r : Result T E) (P : Type 0) → P → OnOk r P
@@ -67,3 +69,14 @@ memory-alone refusals.Command texts = absurd (cc)
 memory-alone (refusals.Field k) texts = absurd (cc)
 memory-alone refusals.Number texts = absurd (cc)
 memory-alone refusals.Memory texts = refl
+
+-- a line that asks a question is answered as the question is
+pub line-answered : {E : Type 0} (r : Result Reply E) (told : Option FileContents) (s : PinnedState) (line : List ℕ)
+    (number : ℕ) (question : Question) (s2 : PinnedState) → command_in s.state.schema line ≡ Ok question
+    → IfOk r (λ reply. IfSome told (λ t. answer_to s t number (Ok question)
+    ≡ Some (record { state = s2; reply = reply_bytes reply })))
+    → IfOk r (λ reply. IfSome told (λ t. answer s t number line
+    ≡ Some (record { state = s2; reply = reply_bytes reply })))
+line-answered r told s line number question s2 is h
+    = subst (λ (read : Result Question LineFault). IfOk r (λ reply. IfSome told (λ t. answer_to s t number read
+    ≡ Some (record { state = s2; reply = reply_bytes reply })))) (sym is) h

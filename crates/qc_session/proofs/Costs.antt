@@ -19,7 +19,7 @@ use Rattle.query_answers.specs.Queries.{query_cost}
 use Rattle.query_script.specs.Commands.{command_in}
 use Rattle.query_script.specs.Faults.{LineFault}
 use Rattle.query_script.specs.Queries.{Point, Query}
-use Rattle.query_script.specs.Questions.{Ask}
+use Rattle.query_script.specs.Questions.{Ask, Question}
 use Rattle.warehouse.specs.Batch as batches
 use Rattle.warehouse.specs.Batch.{Applied, FileUse, Refusal, result, result_of}
 use Rattle.warehouse.specs.InPlace.{IsWithinCost}
@@ -30,7 +30,7 @@ use Rattle.warehouse.specs.declared.refused.Applied as code
 use Rattle.warehouse.specs.declared.refused.Refused.{Refused}
 use Rattle.warehouse.specs.Widening.{WidenRefusal, cost_of_widening, widen_result}
 use Rattle.qc_session.specs.Costs.{Costed, IsWithin, IsWithinScript, batch_cost, both_costs, taken_bytes_cost, changes_cost, costed_step}
-use Rattle.qc_session.specs.Costs.{file_cost, item_cost, line_cost, script_cost, bytes_cost, widen_cost, widening_cost}
+use Rattle.qc_session.specs.Costs.{file_cost, item_cost, line_cost, question_cost, script_cost, bytes_cost, widen_cost, widening_cost}
 use Rattle.qc_session.specs.Forms.{FileNames}
 use Rattle.qc_session.specs.Lines.{is_passed, script_lines}
 use Rattle.qc_session.specs.Pins.{PinnedState, pin_in, unpinned}
@@ -158,6 +158,15 @@ file-within (Some t) name kind s from to h = by (t name) h
         → IsWithin (file_cost kind s file) from to
     by None h = tt
     by (Some bytes) h = h
+
+-- a line that asks a question
+pub line-within : {T E : Type 0} (r : Result T E) (told : Option FileContents) (s : PinnedState) (line : List ℕ)
+    (question : Question) (from to : ℕ) → command_in s.state.schema line ≡ Ok question
+    → OnOk r (IfSome told (λ t. IsWithin (question_cost s t (Ok question)) from to))
+    → OnOk r (IfSome told (λ t. IsWithin (line_cost s t line) from to))
+line-within r told s line question from to is h
+    = subst (λ (read : Result Question LineFault). OnOk r (IfSome told (λ t. IsWithin (question_cost s t read) from to)))
+    (sym is) h
 
 -- a line with a fault
 pub fault-within : {Texts : Type 0} (told : Option FileContents) (s : PinnedState) (line : List ℕ) (n : ℕ)

@@ -8,8 +8,8 @@ use Rattle.query_script.specs.Faults.{line_fault_in}
 use Rattle.reply_text.specs.Replies.{line_texts}
 use Rattle.qc_session.specs.Answers.{file_named, file_of}
 use Rattle.qc_session.specs.Pins.{pinned_state_in}
-use Rattle.qc_session.proofs.Answered.{fault-answered, memory-alone}
-use Rattle.qc_session.proofs.Costs.{fault-within}
+use Rattle.qc_session.proofs.Answered.{fault-answered, line-answered, memory-alone}
+use Rattle.qc_session.proofs.Costs.{fault-within, line-within}
 use Rattle.qc_session.proofs.Stopped.{fault-alone, line-skips}
 use Rattle.qc_session.proofs.Taken.{stay-same}
 use Rattle.qc_session.proofs.answer.answer_line.Goals as goal
@@ -17,6 +17,8 @@ use Rattle.qc_session.proofs.answer.answer_line.Goals as goal
 pub returns-in-Ok : goal.returns-in-Ok
 returns-in-Ok g c =
     let e = c.answer_command.ensures in
+    let told = g.F.Files.told c.args.files.now in
+    let state = pinned_state_in c.args.pinned.now in
     let question = question_in c.in-Ok.command in
     let gives : command_in c.args.pinned.now.now.state.schema c.args.line.now ≡ Ok question
     = rw (c.schema.ensures.value, c.now.ensures.value) at c.in-Ok.ensures.gives in
@@ -30,8 +32,10 @@ returns-in-Ok g c =
       fault = IfErr-weaker c.answer_command.result _ _
           (λ stop h. fault-alone stop rose (file_named (Ok question)) h) e.fault;
       untold = e.untold;
-      answered = rw gives e.answered;
-      steps = rw gives e.steps;
+      answered = line-answered c.answer_command.result told state c.args.line.now c.args.number question
+          (pinned_state_in c.answer_command.new.pinned) gives e.answered;
+      steps = line-within c.answer_command.result told state c.args.line.now question c.args.steps.now
+          c.answer_command.new.steps gives e.steps;
     }
 
 pub returns-in-Some : goal.returns-in-Some

@@ -1,6 +1,5 @@
 use Rattle.std.proofs.Common.{◌==◌, true, arith, refl, ◌∙◌, sym, ap, [], ◌∷◌, ◌++◌, ◌≡◌, ◌+◌, length, map, List, ℕ, IsTrue}
 use Rattle.std.proofs.lemmas.Bool.Decides.{nat_tests}
-use Rattle.std.proofs.lemmas.Grind.{common_steps}
 use Rattle.qc_session.specs.Lines.{lines_of, without_cr}
 use Rattle.qc_session.proofs.Costs.{within-all, within-none, within-push}
 use Rattle.qc_session.proofs.Ended.{rose-later}
@@ -15,9 +14,9 @@ lines-init g c = record {
   later_out = omega arith;
   told = refl;
   steady = λ h. h;
-  room = grind (arith, common_steps);
-  short = grind (arith, common_steps);
-  few = grind (arith, common_steps);
+  room = omega (arith, c.requires.room, ap length c.requires.skipped);
+  short = c.requires.short;
+  few = omega (arith, c.requires.few, c.requires.number);
   up_to = rw c.requires.skipped tt;
   so_far = (
     [],
