@@ -5,9 +5,8 @@ ghost use Rattle.qc_io.specs.Outside.{IsOpenAs, Rose, with_taken};
 ghost use Rattle.qc_session.specs.Lines.{script_lines};
 ghost use Rattle.generated_run.specs.Generated.{generated_record, generated_state};
 ghost use Rattle.qc_session.specs.Forms.{IfGen, IfPack, IfRun, form_of};
-ghost use Rattle.qc_session.specs.Runs.{AllFilesKnown, AreSkipped, Begins, BeginsNot, BrokenOff, Cause, CannotRead, CannotWrite, Finished, HasNoStart, IsNever, IsRefused, IsScriptOf, IsScriptStatus, IsStartOf, IsStatus, IsUnrefused, LongSnapshot, NotBegun, OutOfMemory, ReadFails, HasReported, StoppedAt, StoppedWriting, Unread, Usage, WroteAll, state_in, status_of};
-ghost use Rattle.qc_session.specs.Packs.{IsPackRefused, IsPackUnrefused, LeadsTooFar, Packed, PackedPrefix, WroteSnapshot, WroteSnapshotPrefix};
-ghost use Rattle.cube_snapshot.specs.States.{spelling};
+ghost use Rattle.qc_session.specs.Runs.{AllFilesKnown, AreSkipped, Begins, BeginsNot, BrokenOff, Cause, CannotRead, CannotWrite, Finished, HasNoStart, IsNever, IsRefused, IsScriptOf, IsScriptStatus, IsStartOf, IsStatus, IsUnrefused, LongSnapshot, NotBegun, OutOfMemory, ReadFails, HasReported, Unread, Usage, state_in, status_of};
+ghost use Rattle.qc_session.specs.Packs.{IsPackRefused, IsPackUnrefused, Packed, PackedPrefix};
 ghost use Rattle.warehouse.specs.State.{AreContents};
 
 use crate::failure::{Failure, report};
