@@ -1,6 +1,6 @@
 -- What holds of the bytes of a file that is taken holds of the bytes that are told of its name.
 use Rattle.std.proofs.Common.{◌≡◌, ◌≤◌, ◌<◌, ◌∙◌, ℕ, List, Option, Some, None, IfSome, ap, arith, false, true, length, refl, subst, sym}
-use Rattle.std.specs.Prelude.{◌↔◌, Err, IsSomeAnd, nat_lt}
+use Rattle.std.specs.Prelude.{◌↔◌, Err, IsSomeAnd, Ok, nat_lt}
 use Rattle.std.specs.Option.{option_map}
 use Rattle.std.proofs.lemmas.Bool.Decides.{nat_tests}
 use Rattle.cube_defs.specs.declared.limits.TheConstants.{MAX_FILE}
@@ -8,10 +8,12 @@ use Rattle.cube_defs.specs.Text.{Text}
 use Rattle.pinned_view.specs.Versions.{ShowsSame, Versions}
 use Rattle.qc_io.specs.Outside.{FileContents}
 use Rattle.qc_schema.specs.Schema.{Layout}
-use Rattle.reply_text.specs.Replies.{batch_texts, refused_text, size_texts}
+use Rattle.reply_text.specs.Replies.{applied_text, batch_texts, refused_text, size_texts}
 use Rattle.warehouse.specs.Batch.{Refusal, result}
 use Rattle.warehouse.specs.InPlace.{LeavesNumbers, LeavesOtherRecords}
 use Rattle.warehouse.specs.State.{Contents, State}
+use Rattle.warehouse.specs.Stored.{applied_in}
+use Rattle.warehouse.specs.declared.refused.Applied as code
 use Rattle.qc_session.specs.Answers.{StateAnswer, change_answer, file_answer, with_pins}
 use Rattle.qc_session.specs.Pins.{PinnedAnswer, pinned_state_in}
 use Rattle.qc_session.specs.Stops.{answer_by_use, kind_in, state_by_use}
@@ -135,3 +137,11 @@ numbers-same old new bytes same = subst (LeavesNumbers old.now bytes) (sym (ap (
 pub records-same : (old new : Versions) (bytes : List ℕ) → ShowsSame old new → LeavesOtherRecords old.now bytes new.now
 records-same old new bytes same = subst (LeavesOtherRecords old.now bytes) (sym (ap (λ (v : Versions). v.now) same))
     (λ changes read k n at_number apart. at_number)
+
+-- one that is taken
+pub taken-answer : (kind : FileUse) (old new : Versions) (then : State) (number : ℕ) (bytes : List ℕ)
+    (taken : code.Applied) (reply : List ℕ) → result old.now.state (kind_in kind) bytes ≡ Ok (applied_in then taken)
+    → new.now.state ≡ state_by_use kind old.now.state then → reply ≡ applied_text number taken.records taken.classes
+    → answer_by_use kind old.now.state (change_answer old.now.state number (result old.now.state (kind_in kind) bytes))
+    ≡ record { state = new.now.state; reply = reply }
+taken-answer kind old new then number bytes taken reply does left is = rw (does, left, is) refl

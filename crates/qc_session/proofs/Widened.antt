@@ -1,13 +1,26 @@
 -- The answer to `widen`, by what the code does.
-use Rattle.std.proofs.Common.{◌≡◌, ◌<◌, ℕ, List, [], ◌∷◌, length, map, refl, arith, Err, Ok}
+use Rattle.std.proofs.Common.{◌≡◌, ◌<◌, ℕ, List, [], ◌∷◌, length, map, refl, arith, Err, Ok, Result}
 use Rattle.cube_defs.specs.Text.{Text}
 use Rattle.pinned_view.specs.Versions.{Version, Versions}
+use Rattle.pinned_view.specs.declared.refused.PinnedWiden.{PinnedWiden}
+use Rattle.pinned_view.specs.declared.refused.PinnedWiden.TheVariants as refusals
 use Rattle.reply_text.specs.Replies.{pinned_texts, refused_text, widen_texts, widened_text}
 use Rattle.warehouse.specs.Widening.{WidenRefusal, widen_result}
 use Rattle.warehouse.specs.Stored.{applied_in}
 use Rattle.warehouse.specs.declared.refused.Applied as code
 use Rattle.qc_session.specs.Answers.{widen_with}
 use Rattle.qc_session.specs.Pins.{PinnedState, pinned_state_in, pin_in}
+
+-- what came, and a refusal for another cause, is no refusal for a pin
+pub made-not-pinned : (r : Result code.Applied PinnedWiden) (taken : code.Applied) → r ≡ Ok taken
+    → r ≡ Err refusals.Pinned → ⊥
+made-not-pinned r taken made pinned = cc
+
+pub dims-not-pinned : (r : Result code.Applied PinnedWiden) → r ≡ Err refusals.DimsFull → r ≡ Err refusals.Pinned → ⊥
+dims-not-pinned r dims pinned = cc
+
+pub nodes-not-pinned : (r : Result code.Applied PinnedWiden) → r ≡ Err refusals.NodesFull → r ≡ Err refusals.Pinned → ⊥
+nodes-not-pinned r nodes pinned = cc
 
 -- a state whose pins are these versions
 abbrev beside-versions : Versions → List Version → PinnedState

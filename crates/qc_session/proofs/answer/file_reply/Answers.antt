@@ -1,10 +1,10 @@
-use Rattle.std.proofs.Common.{◌≡◌, ◌∙◌, ap, refl, subst}
+use Rattle.std.proofs.Common.{◌≡◌, ◌∙◌, ap, subst}
 use Rattle.pinned_view.specs.Versions.{Versions}
 use Rattle.warehouse.specs.State.{Contents, IsState, State}
 use Rattle.warehouse.specs.Stored.{refusal_in}
 use Rattle.qc_session.specs.Stops.{kind_in}
 use Rattle.qc_session.proofs.Costs.{unmoved-within}
-use Rattle.qc_session.proofs.Named.{numbers-same, records-same, refused-answer}
+use Rattle.qc_session.proofs.Named.{numbers-same, records-same, refused-answer, taken-answer}
 use Rattle.qc_session.proofs.Refused.{dim-within}
 use Rattle.qc_session.proofs.answer.file_reply.Goals as goal
 
@@ -64,7 +64,8 @@ returns-in-Ok g c =
     let e = c.in-Ok.ensures in
     let (then, gives, left) = e.gives in
     record {
-      ok = rw (gives, left, c.applied_reply.ensures) refl;
+      ok = taken-answer c.args.file.kind c.args.pinned.now c.take_file.new.pinned then c.args.number c.args.file.bytes.now
+          c.in-Ok.taken c.applied_reply.result gives left c.applied_reply.ensures;
       pins = e.pins;
       tried = e.tried;
       numbers = e.numbers;
