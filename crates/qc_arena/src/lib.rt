@@ -6,6 +6,7 @@ mod class_changes;
 mod class_numbers;
 mod counted;
 mod edges;
+mod handing;
 mod image;
 mod image_parts;
 mod images;

@@ -150,7 +150,7 @@ pub(crate) fn resize_from(nodes: &mut Slab<NodeSlot>, had: u8, dims: u8)
 
 // Makes room for a node, and gives its number. Numbers have 32 bits. A batch can use them up, since
 // the number of a killed node is given to no other node before `commit`.
-fn reserve_slot(nodes: &mut Slab<NodeSlot>) -> Result<u32, Memory>
+pub(crate) fn reserve_slot(nodes: &mut Slab<NodeSlot>) -> Result<u32, Memory>
     ensures number { IfOk result (λ k. k ≡ nodes.new.vacant_key) }
     ensures free { IfOk result (λ k. slots.get nodes.new k ≡ None) }
     ensures room { OnOk result (slots.HasRoomFor nodes.new 1) }
