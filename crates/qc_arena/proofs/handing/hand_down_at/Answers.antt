@@ -1,14 +1,17 @@
-use Rattle.std.proofs.Common.{rules, IfOk, IsSome, None, OnErr, OnOk, Some, is_some, length, ℕ, ◌<◌, ◌≡◌, ◌≢◌, ◌≤◌, ◌+◌, ◌-◌, ◌*◌, ◌/◌, ◌%◌, Bool, true, false, nat_eq, nat_lt, List, [], ◌∷◌, ◌++◌, slice_index_or, slice_set, bit_and, bit_or, Fits, w8, w32, w64, Bor, MutBor}
-use Rattle.std.specs.Option.{option_map}
+use Rattle.std.proofs.Common.{◌∙◌, ap, is_some, refl, sym}
 use Rattle.slab.specs.Slab as slots
-use Rattle.cube_defs.specs.Cell.{depth, with_value}
 use Rattle.qc_arena.specs.Inside.{join}
-use Rattle.qc_arena.specs.Lowered.{heir_of, with_class_back, with_forced_child}
-use Rattle.qc_arena.specs.Map.{bare, with_class}
-use Rattle.qc_arena.specs.Parts.{HasRoom, IsStored}
-use Rattle.qc_arena.specs.RecordReaders.{record_or}
+use Rattle.qc_arena.proofs.Stored.{as_is, gone_stored, set_stored}
 use Rattle.qc_arena.proofs.handing.hand_down_at.Goals as goal
 
--- src/handing.rt:114:1
 pub returns-in-Err-set_edge_at-clause-stored : goal.returns-in-Err-set_edge_at-clause-stored
-returns-in-Err-set_edge_at-clause-stored c = ?
+returns-in-Err-set_edge_at-clause-stored c =
+    let s = c.add_bare_child.new.nodes in
+    let t = c.set_edge_at.new.nodes in
+    let k = c.args.node in
+    let same = c.in-Err-set_edge_at.ensures.err in
+    let there = sym (ap is_some same) ∙ c.set_edge_at.ensures.here in
+    gone_stored t c.remove.new.self c.add_bare_child.new.parts c.in-Ok.child
+    (set_stored s t c.add_bare_child.new.parts k (λ n. n) c.add_bare_child.ensures.stored there (λ n. refl)
+    (same ∙ as_is (join (slots.get s k))) c.set_edge_at.ensures.others) c.remove.ensures.updates.changed
+    c.remove.ensures.updates.others
