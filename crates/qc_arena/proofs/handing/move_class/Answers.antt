@@ -1,4 +1,4 @@
-use Rattle.std.proofs.Common.{◌∙◌, None, Option, ap, is_some, refl, sym}
+use Rattle.std.proofs.Common.{◌∙◌, None, Option, ap, is_some, refl}
 use Rattle.qc_arena.specs.Inside.{join}
 use Rattle.qc_arena.specs.Map.{Known}
 use Rattle.qc_arena.proofs.MovedClass.{class_stored}
