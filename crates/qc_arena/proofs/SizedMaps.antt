@@ -16,9 +16,9 @@ use Rattle.qc_arena.specs.declared.tree_totals.TreeTotals.{TreeTotals}
 use Rattle.qc_arena.specs.Changes.{class_in}
 use Rattle.qc_arena.specs.Codes.{Shape}
 use Rattle.qc_arena.specs.Map.{Known}
-use Rattle.qc_arena.specs.Inside.{AreBegun, AreTotals, IsCounted, IsRoot, begun, join, now_of}
+use Rattle.qc_arena.specs.Inside.{AreTotals, IsCounted, IsRoot, begun, join, now_of}
 use Rattle.qc_arena.specs.Resized.{all_resized, entry_resized, resize, resized}
-use Rattle.qc_arena.proofs.Sizes.{depth-resize, depth_long, length-resize, resize_again, resize_any, resize_more, resize_whole}
+use Rattle.qc_arena.proofs.Sizes.{length-resize, resize_any, resize_deep, resize_more, resize_whole}
 use Rattle.qc_arena.proofs.SlotMaps.{get_now, map_is}
 use Rattle.qc_arena.proofs.TotalsSteps.{has_class, width_of}
 
@@ -90,20 +90,6 @@ kept_long w n None e h = refl
 kept_long w n (Some r) e h = let long = h r.cell refl in
     ap (λ (c : Cell ℕ). Some (record r { cell = c })) (resize_more n r.cell (omega arith))
 
-again_at : (v n : ℕ) (o : Option Known) → v ≤ n
-    → option_map (resized v) (option_map (resized n) o) ≡ option_map (resized v) o
-again_at v n None h = refl
-again_at v n (Some r) h = ap (λ (c : Cell ℕ). Some (record r { cell = c })) (resize_again v n r.cell h)
-
-pub again : (v n : ℕ) (t : Tree ℕ) → v ≤ n → all_resized v (all_resized n t) ≡ all_resized v t
-again v n t h = map_is _ _ (λ q.
-    get-resized v (all_resized n t) q ∙ ap (option_map (resized v)) (get-resized n t q) ∙ again_at v n (maps.get t q) h
-    ∙ sym (get-resized v t q))
-
-pub resized_same : (w : ℕ) (t : Tree ℕ) → ((k : ℕ) (c : Cell ℕ) → cell_at t k ≡ Some c → length c ≡ w)
-    → all_resized w t ≡ t
-resized_same w t level = map_is _ _ (λ q. get-resized w t q ∙ same_long w (maps.get t q) (level q))
-
 -- the cell at a number is that of before
 was_cell : (n : ℕ) (t : Tree ℕ) (q : ℕ) (c : Cell ℕ) → cell_at (all_resized n t) q ≡ Some c → (x : Cell ℕ)
     × (cell_at t q ≡ Some x) × (c ≡ resize n x)
@@ -145,95 +131,48 @@ module _ (f : Known → ℕ) (n : ℕ) (same : (r : Known) → f (resized n r) �
   sum-resized t = ap (λ (es : List (ℕ × Known)). sum_by f (map (λ e. e.1) es)) (entries-resized n t)
       ∙ sum_mapped (maps.entries t)
 
-any_back : (w n : ℕ) (c : Cell ℕ) → w ≤ n → length c ≡ w → resize n c ≡ replicate n None → c ≡ replicate w None
-any_back w n c h long e = sym (resize_whole w c long) ∙ sym (resize_again w n c h) ∙ ap (resize w) e ∙ resize_any w n
+any_back : (w n : ℕ) (c : Cell ℕ) → depth c ≤ n → length c ≡ w → resize n c ≡ replicate n None → c ≡ replicate w None
+any_back w n c deep long e = sym (resize_whole w c long) ∙ sym (resize_deep n w c deep) ∙ ap (resize w) e ∙ resize_any w n
 
-module _ (w n m : ℕ) (t : Tree ℕ) (kept : TreeTotals) (is : AreTotals w m t kept) (h : w ≤ n) where
+module _ (w n m : ℕ) (t : Tree ℕ) (kept : TreeTotals) (is : AreTotals w m t kept)
+    (deep : (q : ℕ) (c : Cell ℕ) → cell_at t q ≡ Some c → depth c ≤ n) where
   root_back : (q : ℕ) → cell_at (all_resized n t) q ≡ Some (replicate n None) → cell_at t q ≡ Some (replicate w None)
   root_back q e =
       let x = was_cell n t q (replicate n None) e in
-      x.1 ∙ ap (λ (c : Cell ℕ). Some c) (any_back w n x.0 h (is.cells q x.0 x.1) (sym x.2))
+      x.1 ∙ ap (λ (c : Cell ℕ). Some c) (any_back w n x.0 (deep q x.0 x.1) (is.cells q x.0 x.1) (sym x.2))
 
-  root_longer : (r : Option NodeNo) → IsRoot w r t → IsRoot n r (all_resized n t)
-  root_longer None none = λ q e. none q (root_back q e)
-  root_longer (Some k) one = (
+  root_resized : (r : Option NodeNo) → IsRoot w r t → IsRoot n r (all_resized n t)
+  root_resized None none = λ q e. none q (root_back q e)
+  root_resized (Some k) one = (
     now_cell n t k.0 (replicate w None) one.0 ∙ ap (λ (c : Cell ℕ). Some c) (resize_any n w),
     λ q e. one.1 q (root_back q e),
   )
 
-  counted_longer : (q : ℕ) (x : Known) (o : Option Known) → maps.get t q ≡ o → option_map (resized n) o ≡ Some x
+  counted_resized : (q : ℕ) (x : Known) (o : Option Known) → maps.get t q ≡ o → option_map (resized n) o ≡ Some x
       → IsCounted q x
-  counted_longer q x None at e = cc
-  counted_longer q x (Some r) at e = let same : resized n r ≡ x = cc in
+  counted_resized q x None at e = cc
+  counted_resized q x (Some r) at e = let same : resized n r ≡ x = cc in
       subst (IsCounted q) same (record { number = (is.counted q r at).number; edges = (is.counted q r at).edges })
 
-  -- what is kept of a map is right of that with more dimensions
-  pub kept_longer : AreTotals n m (all_resized n t) kept
-  kept_longer = record {
-    root = root_longer kept.root is.root;
+  -- what is kept of a map is right of that with another number of dimensions, if no value is lost
+  pub kept_resized : AreTotals n m (all_resized n t) kept
+  kept_resized = record {
+    root = root_resized kept.root is.root;
     nodes = is.nodes ∙ sym (len-resized n t);
     classes = is.classes ∙ sym (sum-resized has_class n (λ r. refl) t);
     edges = is.edges ∙ sym (sum-resized width_of n (λ r. refl) t);
     few = let long = len-resized n t in let few = is.few in omega arith;
     cells = λ q c e. let x = was_cell n t q c e in ap (λ (c : Cell ℕ). length c) x.2 ∙ length-resize n x.0;
-    counted = λ q x e. counted_longer q x (maps.get t q) refl (sym (get-resized n t q) ∙ e);
+    counted = λ q x e. counted_resized q x (maps.get t q) refl (sym (get-resized n t q) ∙ e);
   }
 
--- no dimension came since `begin`
-pub begun_level : (b : Bool) (w m : ℕ) (t : Tree ℕ) (kept : TreeTotals) → AreTotals w m t kept → AreBegun b w w m t kept
-begun_level b w m t kept is = record {
-  totals = subst (λ (x : Tree ℕ). AreTotals w m x kept) (sym (resized_same w t is.cells)) is;
-  level = is.cells;
-  deep = λ k c e. let low = depth_long c in let long = is.cells k c e in omega arith;
-  narrow = omega arith;
-  closed = λ e. refl;
-}
-
--- dimensions come
-pub begun_longer : (b : Bool) (w v n m : ℕ) (t : Tree ℕ) (kept : TreeTotals) → b ≡ true → w ≤ n
-    → AreBegun b w v m t kept → AreBegun b n v m (all_resized n t) kept
-begun_longer b w v n m t kept opened h is =
-    let narrow = is.narrow in
-    record {
-      totals = subst (λ (x : Tree ℕ). AreTotals v m x kept) (sym (again v n t (omega arith))) is.totals;
-      level = λ k c e. let x = was_cell n t k c e in ap (λ (c : Cell ℕ). length c) x.2 ∙ length-resize n x.0;
-      deep = λ k c e.
-          let x = was_cell n t k c e in
-          let low = is.deep k x.0 x.1 in
-          let same = ap (λ (c : Cell ℕ). depth c) x.2 ∙ depth-resize n x.0 (omega arith) in
-          omega arith;
-      narrow = omega arith;
-      closed = λ e. absurd (true≢false (sym opened ∙ e));
-    }
-
--- what is seen of the begin is the same where the maps are so in its dimensions
-pub begun_same : (b : Bool) (v : ℕ) (t u : Tree ℕ) → all_resized v t ≡ all_resized v u → begun b v t ≡ begun b v u
-begun_same true v t u e = ap (λ (x : Tree ℕ). Some (record { width = v; tree = x })) e
-begun_same false v t u e = refl
-
 -- what was there at the begin of a batch
-pub at_begin : (b : Bool) (v : ℕ) (t : Tree ℕ) (q : ℕ) → b ≡ true
-    → option_and_then (λ (s : Shape). maps.get s.tree q) (begun b v t) ≡ option_map (resized v) (maps.get t q)
-at_begin true v t q opened = get-resized v t q
-at_begin false v t q opened = absurd (true≢false (sym opened))
-
-class_resized : (v : ℕ) (o : Option Known) → class_in o ≡ class_in (option_map (resized v) o)
-class_resized v None = refl
-class_resized v (Some n) = refl
+pub at_begin : (b : Bool) (w : ℕ) (t : Tree ℕ) (q : ℕ) → b ≡ true
+    → option_and_then (λ (s : Shape). maps.get s.tree q) (begun b w t) ≡ maps.get t q
+at_begin true w t q opened = refl
+at_begin false w t q opened = absurd (true≢false (sym opened))
 
 -- a class is what it was
-pub class_at_begin : (b : Bool) (v : ℕ) (t : Tree ℕ) (q : ℕ) → b ≡ true
-    → class_in (maps.get t q) ≡ class_in (option_and_then (λ (s : Shape). maps.get s.tree q) (begun b v t))
-class_at_begin b v t q opened = class_resized v (maps.get t q) ∙ ap class_in (sym (at_begin b v t q opened))
-
--- a batch is opened
-pub begun_opened : (b : Bool) (w v m : ℕ) (t : Tree ℕ) (kept : TreeTotals) → AreBegun b w v m t kept
-    → AreBegun true w v m t kept
-begun_opened b w v m t kept is = record {
-  totals = is.totals;
-  level = is.level;
-  deep = is.deep;
-  narrow
-      = is.narrow;
-  closed = λ e. absurd (true≢false e);
-}
+pub class_at_begin : (b : Bool) (w : ℕ) (t : Tree ℕ) (q : ℕ) → b ≡ true
+    → class_in (maps.get t q) ≡ class_in (option_and_then (λ (s : Shape). maps.get s.tree q) (begun b w t))
+class_at_begin b w t q opened = ap class_in (sym (at_begin b w t q opened))

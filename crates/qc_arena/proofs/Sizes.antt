@@ -27,12 +27,6 @@ resize_more (suc zero) [] h = refl
 resize_more (suc (suc n)) [] h = absurd (omega arith)
 resize_more (suc n) (e ∷ c) h = ap (λ (l : Cell ℕ). e ∷ l) (resize_more n c (omega arith))
 
-pub resize_again : (n m : ℕ) (c : Cell ℕ) → n ≤ m → resize n (resize m c) ≡ resize n c
-resize_again zero m c h = refl
-resize_again (suc n) zero c h = absurd (omega arith)
-resize_again (suc n) (suc m) [] h = ap (λ (l : Cell ℕ). None ∷ l) (resize_again n m [] (omega arith))
-resize_again (suc n) (suc m) (e ∷ c) h = ap (λ (l : Cell ℕ). e ∷ l) (resize_again n m c (omega arith))
-
 pub resize_any : (n m : ℕ) → resize n (replicate m None) ≡ replicate n None
 resize_any zero m = refl
 resize_any (suc n) zero = ap (λ (l : Cell ℕ). None ∷ l) (resize_any n zero)
@@ -49,6 +43,21 @@ less_deep : (e : Option ℕ) (d n : ℕ) → depth_with e d ≤ suc n → d ≤ 
 less_deep None zero n h = omega arith
 less_deep None (suc d) n h = omega arith
 less_deep (Some v) d n h = omega arith
+
+-- a cell without values
+all_gone : (e : Option ℕ) (d w : ℕ) (c : Cell ℕ) → depth_with e d ≤ zero
+    → (d ≤ zero → resize w [] ≡ resize w c) → resize (suc w) [] ≡ resize (suc w) (e ∷ c)
+all_gone None zero w c h rest = ap (λ (l : Cell ℕ). None ∷ l) (rest (omega arith))
+all_gone None (suc d) w c h rest = absurd (omega arith)
+all_gone (Some v) d w c h rest = absurd (omega arith)
+
+-- entries behind the last value are given up and come back
+pub resize_deep : (n w : ℕ) (c : Cell ℕ) → depth c ≤ n → resize w (resize n c) ≡ resize w c
+resize_deep n zero c h = refl
+resize_deep zero (suc w) [] h = refl
+resize_deep zero (suc w) (e ∷ c) h = all_gone e (depth c) w c h (resize_deep zero w c)
+resize_deep (suc n) (suc w) [] h = ap (λ (l : Cell ℕ). None ∷ l) (resize_deep n w [] (omega arith))
+resize_deep (suc n) (suc w) (e ∷ c) h = ap (λ (l : Cell ℕ). e ∷ l) (resize_deep n w c (less_deep e (depth c) n h))
 
 pub depth-resize : (n : ℕ) (c : Cell ℕ) → depth c ≤ n → depth (resize n c) ≡ depth c
 depth-resize zero c h = omega arith

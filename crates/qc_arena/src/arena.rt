@@ -6,12 +6,13 @@ ghost use Rattle.std.specs.FinSet as set;
 ghost use Rattle.std.specs.Option.{option_map};
 ghost use Rattle.std.specs.Ordering.{nat_cmp};
 ghost use Rattle.aggregates.specs.Views.{agg_in};
+ghost use Rattle.cube_defs.specs.Cell.{depth};
 ghost use Rattle.cube_defs.specs.Tree.{cell_at};
 ghost use Rattle.tree_laws.specs.Counts.{classes_in, links_in, tree_edges_in};
 ghost use Rattle.widen_laws.specs.Widened.{with_any_by_number};
 ghost use Rattle.qc_arena.specs.Changes.{AreClassNumbers, AreNew, class_now, class_was};
 ghost use Rattle.qc_arena.specs.Edges.{with_edge, without_edge};
-ghost use Rattle.qc_arena.specs.Map.{AreRooted, CanChange, IsPlace, edges_in, frame, is_open, is_touched, new_record, no_nodes, overlaid, shape_of, was_at, with_class, with_forced};
+ghost use Rattle.qc_arena.specs.Map.{AreRooted, CanChange, IsPlace, Known, edges_in, frame, is_open, is_touched, new_record, no_nodes, overlaid, shape_of, was_at, with_class, with_forced};
 ghost use Rattle.qc_arena.specs.RecordReaders.{edge_of, record_at};
 ghost use Rattle.qc_arena.specs.Resized.{resized};
 
@@ -27,7 +28,8 @@ use crate::place::NodeSlot;
 use crate::records::NodeRecord;
 use crate::slots::{
     add_record, class_at, copy_at, drop_edge_at, free_places, kill_at, record_of, reserve_edges_at,
-    resize_all, resize_from, restore_all, set_class_at, set_edge_at, set_forced_at,
+    resize_all, restore_all,
+    set_class_at, set_edge_at, set_forced_at,
 };
 use crate::touched::Touched;
 use crate::tree_totals::{Counts, TreeTotals};
@@ -65,7 +67,6 @@ pub struct QcArena {
     last: UnsortedImages,
     is_open: bool,
     dims: u8,
-    dims_then: u8,
     max: u32,
     kept: TreeTotals,
     was: TreeTotals,
@@ -84,14 +85,13 @@ impl Model for QcArena {
       width = a.dims;
       max = a.max;
       now = now_of a.nodes;
-      was = begun a.is_open a.dims_then
-          (was_of (now_of a.nodes) a.images);
+      was = begun a.is_open a.dims (was_of (now_of a.nodes) a.images);
       touched = touched_in a.images;
       last = a.last;
     } };
 
-    ghost invariant = { λ a. IsArena a.dims a.dims_then a.max a.nodes a.images a.is_open a.kept
-        a.was × IsStored a.nodes a.parts };
+    ghost invariant = { λ a. IsArena a.dims a.max a.nodes a.images a.is_open a.kept a.was
+        × IsStored a.nodes a.parts };
 }
 
 impl QcArena {
@@ -128,7 +128,6 @@ impl QcArena {
             last: UnsortedImages::none(alloc),
             is_open: false,
             dims,
-            dims_then: dims,
             max,
             kept: none,
             was: none,
@@ -149,11 +148,9 @@ impl QcArena {
         self.is_open = true;
     }
 
-    /// Adds a last dimension, in which each cell has Any. Takes no memory. `rollback` removes the
-    /// dimension again.
+    /// Adds a last dimension, in which each cell has Any. Takes no memory.
     pub fn widen(&mut self)
-        requires opened { is_open self.old ≡ true }
-        requires untouched { self.old.touched ≡ set.empty }
+        requires closed { is_open self.old ≡ false }
         requires few { self.old.width < MAX_DIMS }
         ensures value { self.new ≡ record self.old {
           width = self.old.width + 1;
@@ -164,6 +161,26 @@ impl QcArena {
             → map.get self.new.now q ≡ option_map with_any_by_number (map.get self.old.now q) }
     {
         let dims = self.dims + 1;
+        resize_all(&mut self.nodes, dims);
+        self.dims = dims;
+    }
+
+    /// Removes the last dimension, in which each cell has Any. Takes no memory.
+    pub fn narrow(&mut self)
+        requires closed { is_open self.old ≡ false }
+        requires some { 1 < self.old.width }
+        requires free { (q : ℕ) (n : Known) → map.get self.old.now q ≡ Some n
+            → depth n.cell < self.old.width }
+        ensures width { self.new.width + 1 ≡ self.old.width }
+        ensures value { self.new ≡ record self.old {
+          width = self.new.width;
+          now
+              = self.new.now;
+        } }
+        ensures nodes { (q : ℕ) → map.get self.new.now q ≡ option_map (resized self.new.width)
+            (map.get self.old.now q) }
+    {
+        let dims = self.dims - 1;
         resize_all(&mut self.nodes, dims);
         self.dims = dims;
     }
@@ -399,8 +416,7 @@ impl QcArena {
     }
 
     /// Closes the batch. Its changes stay. The before-images stay until the next batch, or until
-    /// they are moved out. If the batch added a dimension, they have it too. Cut to the dimensions
-    /// at `begin`, each is the record that its number had then.
+    /// they are moved out.
     pub fn commit(&mut self)
         requires { is_open self.old ≡ true }
         ensures value { self.new ≡ record self.old {
@@ -409,23 +425,18 @@ impl QcArena {
           last
               = self.new.last;
         } }
-        ensures last { IfSome self.old.was (λ shape. shape.width ≡ self.old.width →
-            (q : ℕ) → map.get self.new.last q ≡ (if is_touched self.old q
-            then Some (was_at self.old q) else None)) }
-        ensures cut { IfSome self.old.was (λ shape. (q : ℕ)
-            → option_map (option_map (resized shape.width)) (map.get self.new.last q)
-            ≡ (if is_touched self.old q then Some (was_at self.old q) else None)) }
-        ensures back { IfSome self.old.was (λ shape. shape.width ≡ self.old.width
-            → overlaid self.new.last self.new.now ≡ shape.tree) }
+        ensures last { (q : ℕ) → map.get self.new.last q ≡ (if is_touched self.old q
+            then Some (was_at self.old q) else None) }
+        ensures back { IfSome self.old.was
+            (λ shape. overlaid self.new.last self.new.now ≡ shape.tree) }
     {
         free_places(&mut self.nodes, &self.images, self.kept.nodes);
         self.last = self.images.take();
         self.is_open = false;
-        self.dims_then = self.dims;
         self.was = self.kept;
     }
 
-    /// Closes the batch and restores the state at `begin`, dimensions and numbers included.
+    /// Closes the batch and restores the state at `begin`, numbers included.
     pub fn rollback(&mut self)
         requires { is_open self.old ≡ true }
         ensures back { Some (shape_of self.new) ≡ self.old.was }
@@ -435,8 +446,6 @@ impl QcArena {
         ensures last { self.new.last ≡ self.old.last }
     {
         restore_all(&mut self.nodes, &mut self.parts, &mut self.images);
-        resize_from(&mut self.nodes, self.dims, self.dims_then);
-        self.dims = self.dims_then;
         self.is_open = false;
         self.kept = self.was;
     }

@@ -134,20 +134,6 @@ pub(crate) fn resize_all(nodes: &mut Slab<NodeSlot>, dims: u8)
     }
 }
 
-// Gives each cell another number of dimensions, if the number differs.
-pub(crate) fn resize_from(nodes: &mut Slab<NodeSlot>, had: u8, dims: u8)
-    requires none_killed { (q : ℕ) → slots.get nodes.old q ≢ Some None }
-    requires deep { (q : ℕ) → IfSome (join (slots.get nodes.old q)) (λ n. depth n.cell ≤ dims) }
-    requires had { (q : ℕ) → IfSome (join (slots.get nodes.old q)) (λ n. length n.cell ≡ had) }
-    ensures nodes { (q : ℕ)
-        → join (slots.get nodes.new q) ≡ option_map (resized dims) (join (slots.get nodes.old q)) }
-    ensures none_killed { (q : ℕ) → slots.get nodes.new q ≢ Some None }
-{
-    if had != dims {
-        resize_all(nodes, dims);
-    }
-}
-
 // Makes room for a node, and gives its number. Numbers have 32 bits. A batch can use them up, since
 // the number of a killed node is given to no other node before `commit`.
 pub(crate) fn reserve_slot(nodes: &mut Slab<NodeSlot>) -> Result<u32, Memory>

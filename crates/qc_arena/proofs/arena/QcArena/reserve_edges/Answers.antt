@@ -18,7 +18,7 @@ invariant_of-self c =
     let m = c.self.inside in
     let t = c.reserve_edges_at.new.nodes in
     let k = c.args.node.0 in (
-      same_arena m.dims m.dims_then m.max m.nodes t m.images m.is_open m.kept m.was k c.self.invariant.0
+      same_arena m.dims m.max m.nodes t m.images m.is_open m.kept m.was k c.self.invariant.0
           c.reserve_edges_at.ensures.there c.reserve_edges_at.ensures.here c.reserve_edges_at.ensures.others,
       set_stored m.nodes t m.parts k (λ n. n) c.self.invariant.1
           (in_slot m.nodes k (ap (λ (v : Arena). v.now) c.self.view_is) c.requires) (λ n. refl)
@@ -35,7 +35,7 @@ returns c =
       width = m.dims;
       max = m.max;
       now = t;
-      was = begun m.is_open m.dims_then (was_of t m.images);
+      was = begun m.is_open m.dims (was_of t m.images);
       touched = touched_in m.images;
       last = m.last;
     } in
