@@ -12,6 +12,7 @@ ghost use Rattle.tree_laws.specs.Counts.{classes_in, links_in, tree_edges_in};
 ghost use Rattle.widen_laws.specs.Widened.{with_any_by_number};
 ghost use Rattle.qc_arena.specs.Changes.{AreClassNumbers, AreNew, class_now, class_was};
 ghost use Rattle.qc_arena.specs.Edges.{with_edge, without_edge};
+ghost use Rattle.qc_arena.specs.Lowered.{HandsDown, IsChildOf, TakesBack};
 ghost use Rattle.qc_arena.specs.Map.{AreRooted, CanChange, IsPlace, Known, edges_in, frame, is_open, is_touched, new_record, no_nodes, overlaid, shape_of, was_at, with_class, with_forced};
 ghost use Rattle.qc_arena.specs.RecordReaders.{edge_of, record_at};
 ghost use Rattle.qc_arena.specs.Resized.{resized};
@@ -21,6 +22,7 @@ use crate::class_changes::changed;
 use crate::class_numbers::numbers_of_classes;
 use crate::counted::{record_in, tree_edges_of};
 use crate::edges::PlainEdge;
+use crate::handing::{hand_down_at, take_back_at};
 use crate::images::Images;
 use crate::measure_columns::MeasureColumns;
 use crate::nodes::{Forced, Nodes};
@@ -413,6 +415,65 @@ impl QcArena {
         self.parts.put_class(node.0, &class);
         set_class_at(&mut self.nodes, node.0, class);
         self.kept = self.kept.with_class(had, class.is_some());
+    }
+
+    /// Moves the class of a node to a new child, which has the code 0 in the dimension and is the
+    /// forced one. If memory runs out, all is as it was.
+    pub fn hand_down<L: Ledger>(
+        &mut self,
+        node: NodeNo,
+        dim: u8,
+        steps: &mut Steps<L>,
+    ) -> Result<NodeNo, Memory>
+        requires closed { is_open self.old ≡ false }
+        requires there { IsSome (map.get self.old.now node.0) }
+        requires class { IsSome (record_at self.old.now node.0).class }
+        requires shallow { depth (record_at self.old.now node.0).cell ≤ dim }
+        requires within { dim < self.old.width }
+        requires few { map.len self.old.now < self.old.max }
+        ensures moved { IfOk result
+            (λ child. HandsDown dim node.0 self.old.now self.new.now child.0) }
+        ensures rest { self.new ≡ record self.old { now = self.new.now } }
+        ensures err { OnErr result (self.new.now ≡ self.old.now) }
+        ensures steps { steps.new ≡ steps.old + 1 }
+    {
+        steps.tick();
+        match hand_down_at(&mut self.nodes, &mut self.parts, node.0, dim) {
+            Ok(handed) => {
+                let under = Some((node, dim, 0));
+                let more = self.kept.with_node(under, handed.child);
+                self.kept = more.with_edges(handed.had, handed.has);
+                self.was = self.kept;
+                Ok(NodeNo(handed.child))
+            }
+            Err(error) => Err(error),
+        }
+    }
+
+    /// Gives the class of a child back to its parent, and removes the child. Gives the parent.
+    pub fn take_back<L: Ledger>(
+        &mut self,
+        child: NodeNo,
+        dim: u8,
+        steps: &mut Steps<L>,
+    ) -> NodeNo
+        requires closed { is_open self.old ≡ false }
+        requires child { (node : ℕ) × IsChildOf self.old.now node child.0 }
+        ensures parent { (record_at self.old.now child.0).parent ≡ Some result.0 }
+        ensures back { TakesBack dim result.0 self.old.now self.new.now child.0 }
+        ensures rest { self.new ≡ record self.old { now = self.new.now } }
+        ensures steps { steps.new ≡ steps.old + 1 }
+    {
+        steps.tick();
+        let Some(node) = self.record(child).parent() else {
+            unreachable!()
+        };
+        let back = take_back_at(&mut self.nodes, &mut self.parts, node.0, child.0, dim);
+        let less = self.kept.without_node(child.0, back.child_is_class, back.child_edges);
+        let moved = less.with_class(back.was_class, back.child_is_class);
+        self.kept = moved.with_edges(back.had, back.has);
+        self.was = self.kept;
+        node
     }
 
     /// Closes the batch. Its changes stay. The before-images stay until the next batch, or until
