@@ -1,18 +1,18 @@
 -- What holds of an arena whose node handed its class down, or got it back, while no batch is open.
-use Rattle.std.proofs.Common.{◌≡◌, ◌≢◌, ℕ, ◌+◌, ◌<◌, ◌≤◌, Bool, false, true, cond, Option, Some, None, IsSome, is_some, List, [], length, refl, sym, ap}
+use Rattle.std.proofs.Common.{◌≡◌, ◌≢◌, ℕ, ◌+◌, ◌<◌, ◌≤◌, Bool, true, cond, Option, Some, None, IsSome, is_some, List}
+use Rattle.std.proofs.Common.{[], length, refl, sym, ap}
 use Rattle.std.proofs.Common.{subst, ◌∙◌, arith, true≢false, inl, inr}
 use Rattle.std.proofs.lemmas.Bool.Decides.{eqb_tells}
 use Rattle.std.specs.FinMap as map
 use Rattle.std.specs.Option.{option_map}
 use Rattle.std.specs.Prelude.{if◌then◌else◌}
 use Rattle.slab.specs.Slab as slots
-use Rattle.cell_core.specs.Entry.{IsCode}
 use Rattle.cell_core.specs.declared.cell.NodeNo.{NodeNo}
 use Rattle.cube_defs.specs.Cell.{depth}
 use Rattle.cube_defs.specs.Tree.{Tree}
 use Rattle.cube_defs.specs.declared.limits.TheConstants.{MAX_DIMS, MAX_NODES}
 use Rattle.qc_arena.specs.declared.tree_totals.TreeTotals.{TreeTotals}
-use Rattle.qc_arena.specs.Inside.{AreTotals, IsArena, IsSlots, join, now_of, was_of}
+use Rattle.qc_arena.specs.Inside.{AreTotals, IsArena, join, now_of}
 use Rattle.qc_arena.specs.Lowered.{HandsDown, IsChildOf, TakesBack, heir_of, with_class_back, with_forced_child}
 use Rattle.qc_arena.specs.Map.{IsPlace, Known, new_record}
 use Rattle.qc_arena.specs.Counted.{root_after, root_without}
@@ -20,7 +20,8 @@ use Rattle.qc_arena.specs.RecordReaders.{number, record_at, record_or}
 use Rattle.tree_laws.proofs.CallerLemmas.{some_same}
 use Rattle.qc_arena.proofs.ArenaSteps.{closed_slots, nothing_was}
 use Rattle.qc_arena.proofs.SlotMaps.{get_now, map_is}
-use Rattle.qc_arena.proofs.TotalsSteps.{at_added, at_removed, has_class, is_record, kept_add, kept_change, kept_gone, off_added, off_removed}
+use Rattle.qc_arena.proofs.TotalsSteps.{at_added, at_removed, has_class, is_record, kept_add, kept_change, kept_gone}
+use Rattle.qc_arena.proofs.TotalsSteps.{off_added, off_removed}
 use Rattle.qc_arena.proofs.TotalsSteps.{width_of}
 
 -- while no batch is open, what was at its begin is what is now

@@ -79,7 +79,7 @@ fn count_on_side(nodes: &Slab<NodeSlot>, node: u32, was: Option<&Record>, now: b
 }
 
 // Whether this is the class of a touched node: now, or in its before-image. Equal classes have one
-// COUNT. So the other class is built only if its COUNT is this one, which is rare after a batch.
+// COUNT. So the other class is built only if its COUNT is this one.
 fn is_on_side(
     class: &Agg,
     nodes: &Slab<NodeSlot>,

@@ -118,7 +118,6 @@ pub(crate) fn hand_down_at(
     dim: u8,
 ) -> Result<HandedDown, Memory>
     requires node { IsSome (join (slots.get nodes.old node)) }
-    requires class { IsSome (record_or (join (slots.get nodes.old node))).class }
     requires behind { depth (record_or (join (slots.get nodes.old node))).cell ≤ dim }
     requires dim { dim < length (record_or (join (slots.get nodes.old node))).cell }
     requires stored { IsStored nodes.old parts.old }

@@ -1,4 +1,4 @@
-use Rattle.std.proofs.Common.{◌++◌, ◌≡◌, ◌∙◌, List, Option, ap, arith, is_some, length-append, nat_eq, ℕ}
+use Rattle.std.proofs.Common.{◌++◌, ◌∙◌, List, Option, ap, arith, is_some, length-append, nat_eq, ℕ}
 use Rattle.std.specs.Map.{lookup}
 use Rattle.qc_arena.specs.Entries.{all_new}
 use Rattle.qc_arena.specs.Map.{Known}

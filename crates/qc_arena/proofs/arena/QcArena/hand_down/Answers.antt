@@ -1,4 +1,4 @@
-use Rattle.std.proofs.Common.{◌≡◌, ◌∙◌, ◌+◌, ◌<◌, ◌≤◌, Option, Some, IsSome, ap, arith, is_some, subst, sym, true, ℕ}
+use Rattle.std.proofs.Common.{◌≡◌, ◌∙◌, ◌≤◌, Option, ap, arith, is_some, subst, sym, true, ℕ}
 use Rattle.std.specs.FinMap as map
 use Rattle.std.specs.Option.{option_map}
 use Rattle.slab.specs.Slab as slots
@@ -23,11 +23,6 @@ same_record s q is = ap record_or (there s q is)
 pub hand_down_at-requires-clause-node : goal.hand_down_at-requires-clause-node
 hand_down_at-requires-clause-node g c
     = in_slot c.self.inside.nodes c.args.node.0 (ap (λ (v : Arena). v.now) c.self.view_is) c.requires.there
-
-pub hand_down_at-requires-clause-class : goal.hand_down_at-requires-clause-class
-hand_down_at-requires-clause-class g c
-    = subst (λ (n : Known). IsSome n.class)
-    (same_record c.self.inside.nodes c.args.node.0 (ap (λ (v : Arena). v.now) c.self.view_is)) c.requires.class
 
 pub hand_down_at-requires-clause-behind : goal.hand_down_at-requires-clause-behind
 hand_down_at-requires-clause-behind g c

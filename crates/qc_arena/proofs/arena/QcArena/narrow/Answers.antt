@@ -1,4 +1,4 @@
-use Rattle.std.proofs.Common.{◌∙◌, ◌-◌, ◌≤◌, Option, Some, ap, arith, sym, ℕ}
+use Rattle.std.proofs.Common.{◌∙◌, ◌-◌, ◌≤◌, ap, arith, sym}
 use Rattle.std.specs.Option.{option_map}
 use Rattle.slab.specs.Slab as slots
 use Rattle.cube_defs.specs.Cell.{depth}
