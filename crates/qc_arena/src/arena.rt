@@ -30,8 +30,7 @@ use crate::place::NodeSlot;
 use crate::records::NodeRecord;
 use crate::slots::{
     add_record, class_at, copy_at, drop_edge_at, free_places, kill_at, record_of, reserve_edges_at,
-    resize_all, restore_all,
-    set_class_at, set_edge_at, set_forced_at,
+    resize_all, restore_all, set_class_at, set_edge_at, set_forced_at,
 };
 use crate::touched::Touched;
 use crate::tree_totals::{Counts, TreeTotals};
@@ -451,12 +450,7 @@ impl QcArena {
     }
 
     /// Gives the class of a child back to its parent, and removes the child. Gives the parent.
-    pub fn take_back<L: Ledger>(
-        &mut self,
-        child: NodeNo,
-        dim: u8,
-        steps: &mut Steps<L>,
-    ) -> NodeNo
+    pub fn take_back<L: Ledger>(&mut self, child: NodeNo, dim: u8, steps: &mut Steps<L>) -> NodeNo
         requires closed { is_open self.old ≡ false }
         requires child { (node : ℕ) × IsChildOf self.old.now node child.0 }
         ensures parent { (record_at self.old.now child.0).parent ≡ Some result.0 }
@@ -469,7 +463,9 @@ impl QcArena {
             unreachable!()
         };
         let back = take_back_at(&mut self.nodes, &mut self.parts, node.0, child.0, dim);
-        let less = self.kept.without_node(child.0, back.child_is_class, back.child_edges);
+        let less = self
+            .kept
+            .without_node(child.0, back.child_is_class, back.child_edges);
         let moved = less.with_class(back.was_class, back.child_is_class);
         self.kept = moved.with_edges(back.had, back.has);
         self.was = self.kept;

@@ -95,9 +95,10 @@ invariant_of-self-in-Err g c =
     let is = c.self.invariant.0 in
     let t = c.hand_down_at.new.nodes in
     let shut = sym (is_begun m.is_open m.dims (was_of (now_of m.nodes) m.images)) ∙ ap is_open c.self.view_is
-    ∙ c.requires.closed in
-    (same_slots_arena m.dims m.max m.nodes t m.images m.is_open m.kept m.was is c.in-Err.ensures.err,
-    c.hand_down_at.ensures.stored)
+    ∙ c.requires.closed in (
+      same_slots_arena m.dims m.max m.nodes t m.images m.is_open m.kept m.was is c.in-Err.ensures.err,
+      c.hand_down_at.ensures.stored,
+    )
 
 pub returns-in-Ok-clause-moved : goal.returns-in-Ok-clause-moved
 returns-in-Ok-clause-moved g c =
