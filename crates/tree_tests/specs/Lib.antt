@@ -1,2 +1,3 @@
+pub mod RootClass
 pub mod Rows
 pub mod Single

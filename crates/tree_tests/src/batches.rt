@@ -1,8 +1,6 @@
 // Batches that are kept and taken back.
-ghost use Rattle.std.specs.Prelude.{IsSome, true, ℕ, ◌≡◌};
+ghost use Rattle.std.specs.Prelude.{IsSome, true, ◌≡◌};
 ghost use Rattle.std.specs.FinMap as map;
-ghost use Rattle.std.specs.Option.{option_map};
-ghost use Rattle.widen_laws.specs.Widened.{with_any_by_number};
 ghost use Rattle.qc_arena.specs.Map.{CanChange, is_open};
 
 use crate::grown::{grown, planted};
@@ -48,49 +46,6 @@ fn has_one_edge<L: Ledger>(
         && arena.edge(root, 1, 8, steps).is_none()
         && arena.edge(root, 0, 7, steps).is_none()
         && arena.edge(root, 2, 7, steps).is_none()
-}
-
-// Keeps what was done to an arena, opens a batch, and widens it.
-fn widen_kept(arena: &mut QcArena)
-    requires opened { is_open arena.old ≡ true }
-    requires few { arena.old.width ≡ 3 }
-    ensures opened { is_open arena.new ≡ true }
-    ensures width { arena.new.width ≡ 4 }
-    ensures nodes { (q : ℕ)
-        → map.get arena.new.now q ≡ option_map with_any_by_number (map.get arena.old.now q) }
-{
-    arena.commit();
-    arena.begin();
-    arena.widen();
-}
-
-// Keeps a batch or takes it back.
-fn close(arena: &mut QcArena, keep: bool)
-    requires { is_open arena.old ≡ true }
-{
-    if keep {
-        arena.commit();
-    } else {
-        arena.rollback();
-    }
-}
-
-// Adds a node with a value in a new dimension, and keeps that or takes it back. How many dimensions
-// and nodes there are before and after.
-fn widened<L: Ledger>(alloc: Global, keep: bool, steps: &mut Steps<L>) -> [(u8, u32); 2] {
-    let Some((mut arena, root)) = planted(alloc, steps) else {
-        return [(0, 0); 2];
-    };
-    widen_kept(&mut arena);
-    if arena.add_node(Some((root, 3, 7)), steps).is_err() {
-        drop(arena);
-        return [(0, 0); 2];
-    }
-    let inside = (arena.dims(), arena.live());
-    close(&mut arena, keep);
-    let after = (arena.dims(), arena.live());
-    drop(arena);
-    [inside, after]
 }
 
 // Kills the node to which an edge leads, and takes that back. Whether the node is out at once, with
@@ -205,12 +160,9 @@ fn are_classes_told<L: Ledger>(alloc: Global, steps: &mut Steps<L>) -> bool {
     is_told
 }
 
-/// Whether batches are kept and taken back: an edge, a dimension that stays, one that goes, a node,
-/// an edge that is dropped, and classes.
+/// Whether batches are kept and taken back: an edge, a node, an edge that is dropped, and classes.
 pub(crate) fn are_right<L: Ledger>(alloc: Global, steps: &mut Steps<L>) -> bool {
     becomes(alloc, Fate::TakenBack, steps)
-        && widened(alloc, true, steps) == [(4, 2), (4, 2)]
-        && widened(alloc, false, steps) == [(4, 2), (3, 1)]
         && becomes(alloc, Fate::Killed, steps)
         && becomes(alloc, Fate::Dropped, steps)
         && are_classes_told(alloc, steps)

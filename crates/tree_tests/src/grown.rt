@@ -11,6 +11,7 @@ use std::sync::ledger::Ledger;
 // An arena of at most two nodes, with its root.
 pub(crate) fn planted<L: Ledger>(alloc: Global, steps: &mut Steps<L>) -> Option<(QcArena, NodeNo)>
     ensures width { IfSome result (λ p. p.0.width ≡ 3) }
+    ensures max { IfSome result (λ p. p.0.max ≡ 2) }
     ensures opened { IfSome result (λ p. is_open p.0 ≡ true) }
     ensures root { IfSome result
         (λ p. map.get p.0.now p.1.0 ≡ Some (bare (replicate 3 None) None)) }

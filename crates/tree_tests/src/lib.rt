@@ -1,5 +1,5 @@
 //! Tests of an arena and of indexes, and of what builds a tree and repairs it: batches that are
-//! kept, taken back and stopped, before-images, single acts of building, classes in order of their
+//! kept, taken back and stopped, a class that is handed down, before-images, single acts of building, classes in order of their
 //! values, the way down, and rows that come one by one, against trees that are built from scratch,
 //! record by record.
 #![tactic(auto)]
@@ -30,3 +30,5 @@ mod together;
 mod trees;
 #[cfg(test)]
 mod ways;
+#[cfg(test)]
+mod widening;
