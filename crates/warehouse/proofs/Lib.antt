@@ -18,6 +18,7 @@ pub mod Pinned
 pub mod States
 mod Trees
 mod MovedClasses
+mod ChildLists
 mod Wider
 mod Images
 mod Touching

@@ -26,7 +26,7 @@ use Rattle.qc_arena.specs.Changes.{AreClassNumbers, AreNew, class_in}
 use Rattle.qc_arena.specs.RecordReaders.{number}
 use Rattle.qc_arena.specs.Map.{Known}
 use Rattle.qc_arena.proofs.CallerLemmas.{pushed, pushed_new, pushed_old}
-use Rattle.warehouse.specs.NodeLists.{AreNodesOf, ListsClasses}
+use Rattle.warehouse.specs.NodeLists.{ListsClasses}
 use Rattle.warehouse.proofs.NodeLists.{classes_within, few_there, mark_of, not_before, numbers_push, taken_next}
 
 -- the pairs of the classes whose numbers were seen
@@ -173,50 +173,43 @@ whole_before tree nodes place are all q a e
     = subst (λ (ns : List NodeNo). Among q (numbers ns)) (sym (take_all nodes place all))
     (are.all q (ap is_some e))
 
--- a list of all nodes has each class
-pub from_nodes : (tree : Tree ℕ) (ks : List ℕ) → AreNodesOf tree ks → ListsClasses tree ks
-from_nodes tree ks are = record {
-  once = are.once;
-  there = are.there;
-  all = λ k h. are.all k (there (finmap.get tree k) h);
-}
-  where
-    there : (o : Option Known) → IsSome (class_in o) → IsSome o
-    there None h = h
-    there (Some n) h = refl
-
 -- what holds of each item holds of each number
-listed_there : (P : ℕ → Type 0) (xs : List NodeNo) → ((i : ℕ) (x : NodeNo) → slice_get xs i ≡ Some x → P x.0) → (k : ℕ)
+pub listed_there : (P : ℕ → Type 0) (xs : List NodeNo) → ((i : ℕ) (x : NodeNo) → slice_get xs i ≡ Some x → P x.0) → (k : ℕ)
     → Among k (numbers xs) → P k
 listed_there P [] h k m = absurd m
 listed_there P (x ∷ xs) h k (inl e) = subst P (sym e) (h 0 x refl)
 listed_there P (x ∷ xs) h k (inr m) = listed_there P xs (λ i y e. h (suc i) y e) k m
 
-apart_later : (x : ℕ) (xs : List NodeNo) → ((j : ℕ) (y : NodeNo) → slice_get xs j ≡ Some y → x < y.0)
+apart_later : (x : ℕ) (xs : List NodeNo) → ((j : ℕ) (y : NodeNo) → slice_get xs j ≡ Some y → x ≢ y.0)
     → AllByRecursion (λ y. nat_eq x y ≡ false) (numbers xs)
 apart_later x [] h = tt
 apart_later x (y ∷ xs) h = (
-  (let less = h 0 y refl in
-      false_from_ne_true _ (λ e. let same = eqb-true x y.0 e in omega (arith, less, same))),
+  false_from_ne_true _ (λ e. h 0 y refl (eqb-true x y.0 e)),
   apart_later x xs (λ j z e. h (suc j) z e),
 )
 
--- numbers that rise are distinct
-rising_once : (xs : List NodeNo)
-    → ((i j : ℕ) (x y : NodeNo) → i < j → slice_get xs i ≡ Some x → slice_get xs j ≡ Some y → x.0 < y.0)
+-- numbers of which no two are the same are distinct
+pub apart_once : (xs : List NodeNo)
+    → ((i j : ℕ) (x y : NodeNo) → i < j → slice_get xs i ≡ Some x → slice_get xs j ≡ Some y → x.0 ≢ y.0)
     → IsDistinct nat_eq (numbers xs)
 unfolding IsDistinct
-rising_once [] h = tt
-rising_once (x ∷ xs) h = (
+apart_once [] h = tt
+apart_once (x ∷ xs) h = (
   apart_later x.0 xs (λ j y e. h 0 (suc j) x y (omega arith) refl e),
-  rising_once xs (λ i j y z l e f. h (suc i) (suc j) y z (omega (arith, l)) e f),
+  apart_once xs (λ i j y z l e f. h (suc i) (suc j) y z (omega (arith, l)) e f),
 )
 
--- and so has a list of the classes
+-- class numbers rise, so no two are the same
+pub classes_apart : (class : ℕ → Option defs.Agg) (xs : List NodeNo) → AreClassNumbers class xs
+    → (i j : ℕ) (x y : NodeNo) → i < j → slice_get xs i ≡ Some x → slice_get xs j ≡ Some y → x.0 ≢ y.0
+classes_apart class xs are i j x y l e f same
+    = let less = are.rise i j x y l e f in absurd (omega (arith, less, same))
+
+-- a list of the classes has each
 pub from_classes : (tree : Tree ℕ) (nodes : List NodeNo)
     → AreClassNumbers (λ q. class_in (finmap.get tree q)) nodes → ListsClasses tree (numbers nodes)
 from_classes tree nodes are = record {
-  once = rising_once nodes are.rise;
+  once = apart_once nodes (classes_apart (λ q. class_in (finmap.get tree q)) nodes are);
   there = listed_there (λ q. IsSome (finmap.get tree q)) nodes
       (λ i x e. there (finmap.get tree x.0) (are.there i x e));
   all = λ k h. let at = are.all k h in map_among number (record { 0 = k }) nodes (get_among nodes at.0 _ at.1);
@@ -233,6 +226,28 @@ lists_few tree nodes are =
     let few = few_there tree (numbers nodes) (each_once (numbers nodes) are.once) are.there in
     let long = length-map nodes number in
     omega (arith, few, long)
+
+-- and those of the classes no more than the classes
+pub classes_few : (tree : Tree ℕ) (nodes : List NodeNo)
+    → AreClassNumbers (λ q. class_in (finmap.get tree q)) nodes → length nodes ≤ classes_in nat_cmp tree
+classes_few tree nodes are =
+    let lists = from_classes tree nodes are in
+    let most = classes_within tree (numbers nodes) (each_once (numbers nodes) lists.once) lists.there in
+    let all = each nodes are.there in
+    omega (arith, most, all)
+  where
+    one : (o : Option defs.Agg) → IsSome o → mark_of o ≡ 1
+    one None h = cc
+    one (Some a) h = refl
+
+    each : (xs : List NodeNo) → ((i : ℕ) (x : NodeNo) → slice_get xs i ≡ Some x → IsSome (class_in (finmap.get tree x.0)))
+        → marks_of tree xs ≡ length xs
+    each [] h = refl
+    each (x ∷ xs) h =
+        let first = one (class_in (finmap.get tree x.0)) (h 0 x refl) in
+        let rest = each xs (λ i y e. h (suc i) y e) in
+        let sum = sum_by-cons (λ k. mark_of (class_in (finmap.get tree k))) x.0 (numbers xs) in
+        omega (arith, first, rest, sum)
 
 -- one node more of the first so many
 pub marks_next : (tree : Tree ℕ) (nodes : List NodeNo) (place : ℕ) (x : NodeNo) → slice_get nodes place ≡ Some x

@@ -1,33 +1,33 @@
 -- The parts of a warehouse with one dimension more.
 use Rattle.std.proofs.Common.{◌≡◌, ℕ, ◌*◌, ◌+◌, ◌<◌, ◌≤◌, Bool, true, false, cond, Option, Some, None, List, [], ◌∷◌, ◌++◌, get_or, length}
-use Rattle.std.proofs.Common.{map, nat_le, nat_lt, refl, sym, ap, ap₂, subst, ◌∙◌, arith}
+use Rattle.std.proofs.Common.{is_some, map, nat_le, nat_lt, slice_get, suc, true≢false, zero, refl, sym, ap, ap₂, subst, ◌∙◌, arith}
 use Rattle.std.specs.Prelude.{Err, IfSome, Ok, Result}
 use Rattle.std.specs.Cmp.{nat_cmp_total}
 use Rattle.std.specs.FinMap as finmap
 use Rattle.std.specs.List.{All, AllByRecursion}
-use Rattle.std.specs.Ordering.{nat_cmp}
+use Rattle.std.specs.Option.{option_and_then, option_map}
+use Rattle.std.specs.Ordering.{eq_by_cmp, nat_cmp}
 use Rattle.std.proofs.lemmas.List.{length-append}
 use Rattle.std.proofs.lemmas.Nat.{mul-le}
 use Rattle.std.proofs.lemmas.List.Elements.{All-cons, All-head, All-nil, All-push, All-tail}
 use Rattle.base_table.specs.Places.{IsTable, Places, rows_of, with_code}
 use Rattle.csv_load.specs.Batch.{IsValue}
-use Rattle.cube_defs.specs.Cell.{Cell}
-use Rattle.cube_defs.specs.Rows.{Row}
+use Rattle.cube_defs.specs.Cell.{Cell, cell_eq, depth, depth_with, with_value}
+use Rattle.cube_defs.specs.Rows.{Agg, Row}
 use Rattle.cube_defs.specs.Text.{Text, text_cmp}
-use Rattle.cube_defs.specs.Tree.{Edge, Tree, cell_at, classes, renamed_edge}
+use Rattle.cube_defs.specs.Tree.{Edge, Tree, cell_at, classes, forced_child, next_value, renamed_edge}
 use Rattle.cube_laws.specs.Lists.{Among}
-use Rattle.cube_laws.proofs.CallerLemmas.{all_from, among_map, map_among, node_closed, equality_by}
+use Rattle.cube_laws.proofs.CallerLemmas.{all_from, among_map, cell_eq-exact, map_among, node_closed, equality_by}
 use Rattle.qc_arena.specs.Map.{Arena, Known, edges_in, is_open}
 use Rattle.qc_schema.specs.Schema.{IsLayout, Layout, max_dims, with_dim}
 use Rattle.tree_laws.specs.Labels.{record_of}
-use Rattle.tree_laws.proofs.CallerLemmas.{node_wide, nodes_counted, edges-are, some_same, record_read}
+use Rattle.tree_laws.proofs.CallerLemmas.{next-ge, node_wide, nodes_counted, edges-are, some_same, record_read}
 use Rattle.tree_search.specs.Found.{IsTreeOf, TreeRows}
 use Rattle.value_dict.specs.TextLists as texts
 use Rattle.value_dict.specs.TextLists.{IsDictionary, TextLists}
 use Rattle.value_dict.specs.Decoded.{AreCodes, RowsAreCodes, decoded, decoded_row}
 use Rattle.warehouse.specs.Batch.{Applied}
 use Rattle.warehouse.specs.ClassMoves.{IsWide}
-use Rattle.warehouse.specs.NodeLists.{cost_of_listing}
 use Rattle.warehouse.specs.Steps.{frame}
 use Rattle.warehouse.specs.Stored.{IsStored, IsTreeOfTable, state_of}
 use Rattle.warehouse.specs.State.{State}
@@ -39,7 +39,57 @@ use Rattle.warehouse.specs.declared.refused.WidenRefused.TheVariants as refusals
 use Rattle.widen_laws.proofs.CallerLemmas.{widened_canonical}
 use Rattle.widen_laws.specs.Widened.{all_longer}
 
+-- a dimension with a value is less than the depth
+value_within : (c : Cell ℕ) (i v : ℕ) → slice_get c i ≡ Some (Some v) → i < depth c
+value_within [] i v e = cc
+value_within (Some w ∷ c) zero v e = omega arith
+value_within (None ∷ c) zero v e = absurd (cc e)
+value_within (Some w ∷ c) (suc i) v e = omega (arith, value_within c i v e)
+value_within (None ∷ c) (suc i) v e = deeper (depth c) (value_within c i v e)
+  where
+    deeper : (n : ℕ) → i < n → suc i < depth_with {A = ℕ} None n
+    deeper zero l = absurd (omega (arith, l))
+    deeper (suc n) l = omega (arith, l)
+
+-- a class's own cell has no next value, so it has no forced child
+no_forced : (c : Cell ℕ) → forced_child nat_cmp c c (next_value nat_cmp (depth c) c) ≡ None
+no_forced c = go (slice_get c (next_value nat_cmp (depth c) c)) refl
+  where
+    go : (o : Option (Option ℕ)) → slice_get c (next_value nat_cmp (depth c) c) ≡ o
+        → option_and_then (λ entry. option_map (λ v. let x : Edge ℕ (Cell ℕ) = record {
+          dim = next_value nat_cmp (depth c) c;
+          value = v;
+          target
+              = with_value c (next_value nat_cmp (depth c) c) v;
+        } in x) entry) o ≡ None
+    go None e = refl
+    go (Some None) e = refl
+    go (Some (Some v)) e = absurd (let within = value_within c (next_value nat_cmp (depth c) c) v e in
+        let behind = next-ge nat_cmp (depth c) c in omega (arith, within, behind))
+
 module _ (dims : ℕ) (tree : Tree ℕ) (s : TreeRows) (from : IsTreeOf dims tree s) where
+  -- what the record of a node says by its cell
+  class_unforced : (k : ℕ) (n : Known) → finmap.get tree k ≡ Some n → is_some n.class ≡ true → n.forced ≡ None
+  class_unforced k n g class =
+      let law = equality_by nat_cmp_total finmap.nat_cmp-IsAntisymmetric in
+      let c = node_closed law s.rows n.cell (from.canonical.each k n g).0 in
+      let read = record_read nat_cmp_total finmap.nat_cmp-IsAntisymmetric dims s.measures s.rows from.wide tree
+      from.canonical k n c.0 g c.1 in
+      let own : cell_eq (eq_by_cmp nat_cmp) c.0 n.cell ≡ true
+      = tested (cell_eq (eq_by_cmp nat_cmp) c.0 n.cell) _ (sym (ap (λ z. is_some z.class) read) ∙ class) in
+      let same : c.0 ≡ n.cell = cell_eq-exact law c.0 n.cell own in
+      unnamed n.forced (ap (λ z. z.forced) read
+      ∙ ap (option_map (renamed_edge (λ (d : Cell ℕ). Some d)))
+      (ap (λ u. forced_child nat_cmp n.cell u (next_value nat_cmp (depth n.cell) u)) same ∙ no_forced n.cell))
+    where
+      tested : (b : Bool) (a : Agg) → is_some (cond b (Some a) None) ≡ true → b ≡ true
+      tested true a e = refl
+      tested false a e = absurd (true≢false (sym e))
+
+      unnamed : (o : Option (Edge ℕ ℕ)) → option_map (renamed_edge (cell_at tree)) o ≡ None → o ≡ None
+      unnamed None e = refl
+      unnamed (Some x) e = absurd (cc e)
+
   label_within : (k : ℕ) (n : Known) → finmap.get tree k ≡ Some n → (x : Edge ℕ ℕ) → Among x n.edges → x.dim < dims
   label_within k n g x h =
       let c = node_closed (equality_by nat_cmp_total finmap.nat_cmp-IsAntisymmetric) s.rows n.cell
@@ -58,12 +108,13 @@ module _ (dims : ℕ) (tree : Tree ℕ) (s : TreeRows) (from : IsTreeOf dims tre
       let w = l.place.within in
       omega arith
 
-  -- the cells of a canonical tree have all dimensions, and no label has another
+  -- the cells of a canonical tree have all dimensions, no label has another, and no class has a forced child
   pub is-wide : IsWide dims tree
   is-wide = record {
     cells = λ k n g. node_wide nat_cmp_total finmap.nat_cmp-IsAntisymmetric dims s.measures s.rows from.wide tree
         from.canonical k n g;
     labels = λ k n g. all_from (λ x. x.dim < dims) n.edges (label_within k n g);
+    unforced = class_unforced;
   }
 
 wide-longer : (n : ℕ) (rows : List (Row ℕ)) → AllByRecursion (λ row. length row.tuple ≡ n) rows
@@ -237,9 +288,9 @@ kept-wide schema table tree dims long closed width max few from = record {
       (sym long) from;
 }
 
--- what listing the nodes, handing the classes on and filling the index costs is within what a dimension may cost
+-- what listing the classes, handing them on and filling the index costs is within what a dimension may cost
 pub cost-wide : (dims : ℕ) (tree : Tree ℕ) (count from listed to : ℕ) → count ≤ finmap.len tree
-    → listed ≤ from + cost_of_listing tree → to ≤ listed + 9 * count → to ≤ from + steps_of_widening dims (size_of tree)
+    → listed ≤ from + finmap.len tree → to ≤ listed + 2 * count → to ≤ from + steps_of_widening dims (size_of tree)
 cost-wide dims tree count from listed to few first rest =
     let within = mul-le 16 (finmap.len tree + edges_in tree + 1) (16 * (dims + 1))
     (finmap.len tree + edges_in tree + 1) (omega arith) (omega arith) in

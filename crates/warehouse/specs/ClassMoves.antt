@@ -1,56 +1,25 @@
--- How far the classes of a tree are handed on to new children, as its nodes are gone through.
-use Rattle.std.specs.Prelude.{ℕ, Bool, true, false, ◌≡◌, ◌≢◌, ◌⊎◌, ◌<◌, ◌≤◌, ◌+◌, List, Some, None, [], length, is_some, nat_eq, IsSome}
+-- How far the classes of a tree are handed on to new children, as they are gone through.
+use Rattle.std.specs.Prelude.{ℕ, Bool, true, false, ◌≡◌, ◌⊎◌, ◌<◌, ◌≤◌, ◌+◌, List, Option, Some, None, length, is_some, nat_eq, slice_get, take}
 use Rattle.std.specs.FinMap as map
 use Rattle.std.specs.List.{AllByRecursion, list_any}
 use Rattle.std.specs.Option.{option_map}
 use Rattle.std.specs.Ordering.{nat_cmp}
 use Rattle.cell_core.specs.declared.cell.NodeNo.{NodeNo}
-use Rattle.cube_defs.specs.Cell.{Cell, depth, with_value}
-use Rattle.cube_defs.specs.Rows.{Agg}
-use Rattle.cube_defs.specs.Tree.{Edge, Tree}
-use Rattle.qc_arena.specs.Edges.{with_edge}
-use Rattle.qc_arena.specs.Map.{Arena, Known, is_open, with_class, with_forced}
-use Rattle.qc_arena.specs.RecordReaders.{record_at}
+use Rattle.cube_defs.specs.Tree.{Tree}
+use Rattle.qc_arena.specs.Changes.{AreClassNumbers, class_in}
+use Rattle.qc_arena.specs.Map.{Arena, Known}
 use Rattle.tree_laws.specs.Counts.{classes_in}
 use Rattle.widen_laws.specs.Widened.{child_by_number, with_forced_value_by_number, with_any_by_number}
 
--- the label of a new child
-abbrev pub label_to : ℕ → ℕ → Edge ℕ ℕ
-label_to dim child = record { dim = dim; value = 0; target = child }
-
--- the record of a node that gets a forced child, and is no class any more
-abbrev pub with_forced_child : ℕ → ℕ → Known → Known
-with_forced_child dim child n
-    = with_edge (label_to dim child) (with_forced (Some (label_to dim child)) (with_class None n))
-
--- the record of a child that is a class
-abbrev pub made_child : ℕ → ℕ → Agg → Cell ℕ → Known
-made_child dim parent class cell
-    = record { cell = with_value cell dim 0; parent = Some parent; class = Some class; forced = None; edges = [] }
-
--- the cells have so many dimensions, and so have the labels of classes
+-- the cells have so many dimensions, and so have the labels; a class has no forced child
 pub record IsWide (dims : ℕ) (tree : Tree ℕ) : Type 0 where
   pub cells : (k : ℕ) (n : Known) → map.get tree k ≡ Some n → length n.cell ≡ dims
   pub labels : (k : ℕ) (n : Known) → map.get tree k ≡ Some n → AllByRecursion (λ x. x.dim < dims) n.edges
-
--- whether a node is a class
-abbrev pub is_class_at : Tree ℕ → NodeNo → Bool
-is_class_at tree x = is_some (record_at tree x.0).class
-
--- a batch is open, the node is there, and its values are all before the dimension, which is one of the tree's
-pub record CanTakeChild (dim : ℕ) (tree : Arena) (k : ℕ) : Type 0 where
-  pub opened : is_open tree ≡ true
-  pub there : IsSome (map.get tree.now k)
-  pub shallow : depth (record_at tree.now k).cell ≤ dim
-  pub within : dim < tree.width
+  pub unforced : (k : ℕ) (n : Known) → map.get tree k ≡ Some n → is_some n.class ≡ true → n.forced ≡ None
 
 -- a new child for each class is within the most nodes
 abbrev pub HasRoom : Arena → Type 0
 HasRoom tree = map.len tree.now + classes_in nat_cmp tree.now ≤ tree.max
-
--- a new child for this node is, if it is a class
-abbrev pub HasRoomAt : Arena → ℕ → Type 0
-HasRoomAt tree k = is_some (record_at tree.now k).class ≡ true → map.len tree.now < tree.max
 
 -- the classes of these numbers have handed their aggregates to children, and the other nodes have Any in the new
 -- dimension
@@ -70,22 +39,22 @@ pub record HasMovedClasses (done : ℕ → Bool) (dims : ℕ) (child : ℕ → �
       ⊎ ((k : ℕ) × (n : Known) × (map.get tree k ≡ Some n) × (is_some n.class ≡ true) × (done k ≡ true)
       × (q ≡ child k))
 
-abbrev pub MovesClasses : (ℕ → Bool) → ℕ → Tree ℕ → Tree ℕ → Type 0
-MovesClasses done dims tree wide = (child : ℕ → ℕ) × HasMovedClasses done dims child tree wide
-
 -- whether a node is in a list
 abbrev pub is_listed : List NodeNo → ℕ → Bool
 is_listed nodes k = list_any (λ x. nat_eq k x.0) nodes
 
--- a child with a class was added to a node
-pub record HasChild (dim node : ℕ) (class : Agg) (tree tree' : Tree ℕ) (to : ℕ) : Type 0 where
-  pub child : map.get tree' to ≡ Some (made_child dim node class (record_at tree node).cell)
-  pub free : map.get tree to ≡ None
-  pub others : (q : ℕ) → q ≢ to → map.get tree' q ≡ map.get tree q
+-- the number that stands in a list in the place of another
+abbrev pub heir : (ℕ → ℕ) → NodeNo → NodeNo
+heir child x = record { 0 = child x.0 }
 
--- a node handed its class to a new child
-pub record MovesClassTo (dim node : ℕ) (class : Agg) (tree tree' : Tree ℕ) (to : ℕ) : Type 0 where
-  pub here : map.get tree' node ≡ option_map (with_forced_child dim to) (map.get tree node)
-  pub child : map.get tree' to ≡ Some (made_child dim node class (record_at tree node).cell)
-  pub free : map.get tree to ≡ None
-  pub others : (q : ℕ) → q ≢ node → q ≢ to → map.get tree' q ≡ map.get tree q
+-- the first so many classes of a tree, which are all listed, have handed their aggregates to children, whose numbers
+-- stand in the list in their places
+pub record HaveChildren (dims place : ℕ) (tree wide : Tree ℕ) (old now : List NodeNo) : Type 0 where
+  pub is_wide : IsWide dims tree
+  pub listed : AreClassNumbers (λ q. class_in (map.get tree q)) old
+  pub within : place ≤ length old
+  pub child : ℕ → ℕ
+  pub moved : HasMovedClasses (is_listed (take place old)) dims child tree wide
+  pub front : (j : ℕ) → j < place → slice_get now j ≡ option_map (heir child) (slice_get old j)
+  pub rest : (j : ℕ) → place ≤ j → slice_get now j ≡ slice_get old j
+  pub long : length now ≡ length old

@@ -10,3 +10,4 @@ pub mod NodeLists
 pub mod Counted
 pub mod Dimensions
 pub mod Changing
+pub mod Lowered

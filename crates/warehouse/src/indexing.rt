@@ -10,7 +10,7 @@ ghost use Rattle.qc_schema.specs.Schema.{IsLayout};
 ghost use Rattle.iceberg_query.specs.Subtree.{numbers as numbers_of};
 ghost use Rattle.std.specs.Ordering.{nat_cmp};
 ghost use Rattle.tree_laws.specs.Counts.{classes_in};
-ghost use Rattle.warehouse.specs.NodeLists.{AreNodesOf, ListsClasses};
+ghost use Rattle.warehouse.specs.NodeLists.{ListsClasses};
 ghost use Rattle.warehouse.specs.State.{IsIndexed, scale_in};
 ghost use Rattle.warehouse.specs.Stored.{IsTreeOfSome};
 
@@ -124,8 +124,9 @@ fn filled_index<L: Ledger>(
     index_of_listed(alloc, schema, tree, &numbers, steps)
 }
 
-/// The index of the classes of a tree whose nodes are listed.
-pub(crate) fn listed_index<L: Ledger>(
+/// The index of the classes of a tree. Each class is among the listed nodes. If the schema names no
+/// kind, they are not read.
+pub(crate) fn index_of_classes<L: Ledger>(
     alloc: Global,
     schema: &Schema,
     tree: &QcArena,
@@ -133,10 +134,13 @@ pub(crate) fn listed_index<L: Ledger>(
     steps: &mut Steps<L>,
 ) -> Result<Index, Memory>
     requires tree { IsTreeOfSome schema.now tree.now.now }
-    requires nodes { AreNodesOf tree.now.now (numbers_of nodes.now.items) }
+    requires nodes { ListsClasses tree.now.now (numbers_of nodes.now.items) }
     ensures index { IfOk result (λ index. IsIndexed schema.now tree.now.now index) }
     ensures steps { steps.new ≤ steps.old + length nodes.now.items }
 {
+    if schema.indexes().is_empty() {
+        return new_index(alloc, schema);
+    }
     index_of_listed(alloc, schema, tree, nodes, steps)
 }
 

@@ -8,11 +8,11 @@ mod cube;
 mod deleting;
 mod indexing;
 mod learning;
-mod node_list;
 mod parts;
 mod refused;
 mod row_insertion;
 mod store;
+mod stub;
 mod widening;
 
 pub use cube_defs::Memory;

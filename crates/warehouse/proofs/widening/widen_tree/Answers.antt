@@ -1,99 +1,167 @@
-use Rattle.std.proofs.Common.{◌≡◌, ◌∙◌, Some, ap, arith, refl, slice_get, sym, subst}
+use Rattle.std.proofs.Common.{◌≡◌, ◌≤◌, ◌<◌, ◌+◌, ◌-◌, ◌∙◌, ℕ, List, Some, ap, arith, length, refl, slice_get, slice_index_or, subst, sym}
 use Rattle.std.proofs.lemmas.Option.{slice_get-get_or}
-use Rattle.qc_arena.specs.Map.{Arena, frame, is_open}
-use Rattle.warehouse.specs.ClassMoves.{IsWide}
-use Rattle.warehouse.specs.Widening.{KeepsWidened}
-use Rattle.warehouse.proofs.MovedClasses.{arrives, goes_on, has_room, is_shallow, is_there, sets_out}
+use Rattle.cell_core.specs.declared.cell.NodeNo.{NodeNo}
+use Rattle.cube_defs.specs.Cell.{depth}
+use Rattle.cube_defs.specs.Tree.{Tree}
+use Rattle.qc_arena.specs.Map.{Arena, is_open}
+use Rattle.qc_arena.specs.RecordReaders.{record_at}
+use Rattle.warehouse.specs.ClassMoves.{HaveChildren}
+use Rattle.warehouse.specs.Lowered.{HandsDown}
+use Rattle.warehouse.proofs.ChildLists.{arrives, can_narrow, goes_on, lists_children, narrowed, next_is_class, next_shallow}
+use Rattle.warehouse.proofs.ChildLists.{next_there, no_more_wide, one_more, sets_out}
+use Rattle.warehouse.proofs.ListedClasses.{classes_few}
 use Rattle.warehouse.proofs.widening.widen_tree.Goals as goal
+
+-- the item of a place
+item_at : (now : List NodeNo) (place : ℕ) (x : NodeNo) → place < length now → x ≡ slice_index_or now place x
+    → slice_get now place ≡ Some x
+item_at now place x within same = slice_get-get_or now place x within ∙ ap (λ (y : NodeNo). Some y) (sym same)
 
 pub places-init : goal.places-init
 places-init g c = record {
-  way = sets_out c.dims-dim.result c.args.tree.now.now c.widen.new.self.now c.args.nodes.now.items c.widen.ensures.nodes
-      c.requires.nodes;
-  frame = ap frame c.widen.ensures.value;
+  way = sets_out c.args.tree.now.width c.args.tree.now.now c.widen.new.tree.now c.args.classes.now.items c.requires.wide
+      c.requires.classes c.widen.ensures.nodes;
+  rest = c.widen.ensures.value;
+  size = let few = no_more_wide c.args.tree.now.now c.widen.new.tree.now c.widen.ensures.nodes in omega (arith, few);
   steps = omega arith;
-  within = omega arith;
 }
 
-pub move_class-requires-clause-node : goal.move_class-requires-clause-node
-move_class-requires-clause-node g c =
-    let before = c.args.tree.now.now in
-    let old = c.args.nodes.now.items in
-    let inv = c.places.invariant in
-    let x = c.index-node.result.now in
-    let wide = subst (λ n. IsWide n before) (sym c.dims-dim.ensures.value) c.requires.wide in
-    let now : slice_get c.places.nodes.items c.places.place ≡ Some x
-    = slice_get-get_or c.places.nodes.items c.places.place x
-    (omega (arith, inv.way.least, c.places-test.true, c.len-place-end.ensures))
-    ∙ ap (λ y. Some y) (sym c.index-node.ensures) in
-    let at : slice_get old c.places.place ≡ Some x
-    = sym (inv.way.front c.places.place (omega (arith, c.places-test.true, c.len-place-end.ensures))) ∙ now in
-    record {
-      opened = ap is_open inv.frame ∙ c.requires.opened;
-      there = is_there c.dims-dim.result c.places.place before c.places.tree.now old c.places.nodes.items x wide
-          c.requires.nodes inv.way at;
-      shallow = is_shallow c.dims-dim.result c.places.place before c.places.tree.now old c.places.nodes.items x wide
-          c.requires.nodes inv.way at;
-      within = omega (arith, c.dims-dim.ensures.value, ap (λ (a : Arena). a.width) inv.frame);
-    }
+pub hand_down-requires-clause-closed : goal.hand_down-requires-clause-closed
+hand_down-requires-clause-closed g c = ap is_open c.places.invariant.rest ∙ c.requires.closed
 
-pub move_class-requires-clause-few : goal.move_class-requires-clause-few
-move_class-requires-clause-few g c =
-    let before = c.args.tree.now.now in
-    let old = c.args.nodes.now.items in
+pub hand_down-requires-clause-there : goal.hand_down-requires-clause-there
+hand_down-requires-clause-there g c =
     let inv = c.places.invariant in
-    let x = c.index-node.result.now in
-    let wide = subst (λ n. IsWide n before) (sym c.dims-dim.ensures.value) c.requires.wide in
-    let now : slice_get c.places.nodes.items c.places.place ≡ Some x
-    = slice_get-get_or c.places.nodes.items c.places.place x
-    (omega (arith, inv.way.least, c.places-test.true, c.len-place-end.ensures))
-    ∙ ap (λ y. Some y) (sym c.index-node.ensures) in
-    let at : slice_get old c.places.place ≡ Some x
-    = sym (inv.way.front c.places.place (omega (arith, c.places-test.true, c.len-place-end.ensures))) ∙ now in
-    λ t. let few = has_room c.dims-dim.result c.places.place before c.places.tree.now old c.places.nodes.items x wide
-    c.requires.nodes inv.way at c.args.tree.now.max c.requires.room t in
-    omega (arith, few, ap (λ (a : Arena). a.max) inv.frame)
+    next_there c.args.tree.now.width c.places.place c.args.tree.now.now c.places.tree.now c.args.classes.now.items
+    c.places.classes.items c.index.result.now inv.way
+    (item_at c.places.classes.items c.places.place c.index.result.now
+    (omega (arith, inv.way.long, c.places-test.true, c.len-place-end.ensures)) c.index.ensures)
+
+pub hand_down-requires-clause-class : goal.hand_down-requires-clause-class
+hand_down-requires-clause-class g c =
+    let inv = c.places.invariant in
+    next_is_class c.args.tree.now.width c.places.place c.args.tree.now.now c.places.tree.now c.args.classes.now.items
+    c.places.classes.items c.index.result.now inv.way
+    (item_at c.places.classes.items c.places.place c.index.result.now
+    (omega (arith, inv.way.long, c.places-test.true, c.len-place-end.ensures)) c.index.ensures)
+
+pub hand_down-requires-clause-shallow : goal.hand_down-requires-clause-shallow
+hand_down-requires-clause-shallow g c =
+    let inv = c.places.invariant in
+    subst (λ n. depth (record_at c.places.tree.now c.index.result.now.0).cell ≤ n) (sym c.dims-dim.ensures.value)
+    (next_shallow c.args.tree.now.width c.places.place c.args.tree.now.now c.places.tree.now c.args.classes.now.items
+    c.places.classes.items c.index.result.now inv.way
+    (item_at c.places.classes.items c.places.place c.index.result.now
+    (omega (arith, inv.way.long, c.places-test.true, c.len-place-end.ensures)) c.index.ensures))
+
+pub hand_down-requires-clause-within : goal.hand_down-requires-clause-within
+hand_down-requires-clause-within g c
+    = omega (arith, c.dims-dim.ensures.value, ap (λ (a : Arena). a.width) c.places.invariant.rest)
+
+pub hand_down-requires-clause-few : goal.hand_down-requires-clause-few
+hand_down-requires-clause-few g c =
+    let inv = c.places.invariant in
+    let few = classes_few c.args.tree.now.now c.args.classes.now.items c.requires.classes in
+    omega (
+      arith,
+      few,
+      inv.size,
+      c.requires.room,
+      c.places-test.true,
+      c.len-place-end.ensures,
+      ap (λ (a : Arena). a.max) inv.rest,
+    )
+
+-- a tree that a refusal left as it was
+unmoved : (a b : Arena) → b ≡ record a { now = b.now } → b.now ≡ a.now → b ≡ a
+unmoved a b rest same = rest ∙ ap (λ (t : Tree ℕ). let x : Arena = record a { now = t } in x) same
+
+pub narrow_tree-requires-clause-closed : goal.narrow_tree-requires-clause-closed
+narrow_tree-requires-clause-closed g c =
+    ap is_open c.hand_down.ensures.rest ∙ ap is_open c.places.invariant.rest ∙ c.requires.closed
+
+pub narrow_tree-requires-clause-some : goal.narrow_tree-requires-clause-some
+narrow_tree-requires-clause-some g c =
+    omega (
+      arith,
+      c.requires.some,
+      ap (λ (a : Arena). a.width) c.hand_down.ensures.rest,
+      ap (λ (a : Arena). a.width) c.places.invariant.rest,
+    )
+
+pub narrow_tree-requires-clause-moved : goal.narrow_tree-requires-clause-moved
+narrow_tree-requires-clause-moved g c =
+    let inv = c.places.invariant in
+    let old = c.args.classes.now.items in (
+      c.args.tree.now.now,
+      old,
+      subst (λ (a : Arena). HaveChildren (a.width - 1) c.places.place c.args.tree.now.now a.now old c.places.classes.items)
+          (sym (unmoved c.places.tree c.hand_down.new.tree c.hand_down.ensures.rest c.in-Err.ensures.err))
+          (can_narrow c.args.tree.now c.places.tree c.places.place old c.places.classes.items inv.rest inv.way),
+    )
+
+pub returns-in-Err-clause-err : goal.returns-in-Err-clause-err
+returns-in-Err-clause-err g c =
+    let inv = c.places.invariant in
+    let old = c.args.classes.now.items in
+    let same : c.hand_down.new.tree ≡ c.places.tree
+    = unmoved c.places.tree c.hand_down.new.tree c.hand_down.ensures.rest c.in-Err.ensures.err in
+    let have = subst (λ (a : Arena). HaveChildren (a.width - 1) c.places.place c.args.tree.now.now a.now old
+    c.places.classes.items) (sym same)
+    (can_narrow c.args.tree.now c.places.tree c.places.place old c.places.classes.items inv.rest inv.way) in
+    narrowed c.args.tree.now c.places.tree c.narrow_tree.new.tree inv.rest
+    (subst (λ (a : Arena). c.narrow_tree.new.tree
+    ≡ (let b : Arena = record a { width = a.width - 1; now = c.narrow_tree.new.tree.now } in b)) same
+    c.narrow_tree.ensures.rest)
+    (c.narrow_tree.ensures.back c.args.tree.now.now old have)
 
 pub places-preserved : goal.places-preserved
 places-preserved g c =
-    let before = c.args.tree.now.now in
-    let old = c.args.nodes.now.items in
     let inv = c.places.invariant in
-    let x = c.index-node.result.now in
-    let wide = subst (λ n. IsWide n before) (sym c.dims-dim.ensures.value) c.requires.wide in
-    let now : slice_get c.places.nodes.items c.places.place ≡ Some x
-    = slice_get-get_or c.places.nodes.items c.places.place x
-    (omega (arith, inv.way.least, c.places-test.true, c.len-place-end.ensures))
-    ∙ ap (λ y. Some y) (sym c.index-node.ensures) in
-    let at : slice_get old c.places.place ≡ Some x
-    = sym (inv.way.front c.places.place (omega (arith, c.places-test.true, c.len-place-end.ensures))) ∙ now in
+    let x = c.index.result.now in
+    let at = item_at c.places.classes.items c.places.place x
+    (omega (arith, inv.way.long, c.places-test.true, c.len-place-end.ensures)) c.index.ensures in
+    let move = subst (λ d. HandsDown d x.0 c.places.tree.now c.hand_down.new.tree.now c.in-Ok.child.0)
+    c.dims-dim.ensures.value c.in-Ok.ensures.moved in
+    let there = next_there c.args.tree.now.width c.places.place c.args.tree.now.now c.places.tree.now
+    c.args.classes.now.items c.places.classes.items x inv.way at in
+    let longer = one_more c.args.tree.now.width x.0 c.in-Ok.child.0 c.places.tree.now c.hand_down.new.tree.now there
+    move in
     record {
-      way = goes_on c.dims-dim.result c.places.place before c.places.tree.now old c.places.nodes.items x wide
-          c.requires.nodes inv.way at c.move_class.new.tree.now c.move_class.new.nodes.items _ refl
-          c.in-Ok.ensures.moved;
-      frame = c.move_class.ensures.frame ∙ inv.frame;
-      steps = omega (arith, inv.steps, c.in-Ok.ensures.steps);
-      within = omega (arith, c.places-test.true, c.len-place-end.ensures);
+      way = goes_on c.args.tree.now.width c.places.place c.args.tree.now.now c.places.tree.now c.args.classes.now.items
+          c.places.classes.items x inv.way at c.hand_down.new.tree.now c.in-Ok.child _ move refl;
+      rest = c.hand_down.ensures.rest
+          ∙ ap (λ (a : Arena). let b : Arena = record a { now = c.hand_down.new.tree.now } in b) inv.rest;
+      size = omega (arith, longer, inv.size);
+      steps = omega (arith, inv.steps, c.hand_down.ensures.steps);
     }
 
 pub returns-clause-kept : goal.returns-clause-kept
 returns-clause-kept g c =
-    let before = c.args.tree.now.now in
-    subst (λ n. KeepsWidened n before c.places.tree.now) c.dims-dim.ensures.value
-    (arrives c.dims-dim.result c.places.place before c.places.tree.now c.args.nodes.now.items c.places.nodes.items
-    c.requires.nodes (omega (arith, c.places-test.false, c.len-place-end.ensures)) c.places.invariant.way)
+    arrives c.args.tree.now.width c.places.place c.args.tree.now.now c.places.tree.now c.args.classes.now.items
+    c.places.classes.items c.places.invariant.way (omega (arith, c.places-test.false, c.len-place-end.ensures))
 
-pub widen-requires-clause-opened : goal.widen-requires-clause-opened
-widen-requires-clause-opened g c = c.requires.opened
+pub returns-clause-classes : goal.returns-clause-classes
+returns-clause-classes g c =
+    lists_children c.args.tree.now.width c.places.place c.args.tree.now.now c.places.tree.now c.args.classes.now.items
+    c.places.classes.items c.places.invariant.way (omega (arith, c.places-test.false, c.len-place-end.ensures))
 
-pub widen-requires-clause-untouched : goal.widen-requires-clause-untouched
-widen-requires-clause-untouched g c = c.requires.untouched
+pub returns-clause-moved : goal.returns-clause-moved
+returns-clause-moved g c =
+    let old = c.args.classes.now.items in
+    let all : c.places.place ≡ length old
+    = omega (arith, c.places-test.false, c.len-place-end.ensures, c.places.invariant.way.within) in
+    subst (λ n. HaveChildren c.args.tree.now.width n c.args.tree.now.now c.places.tree.now old c.places.classes.items) all
+    c.places.invariant.way
 
-pub widen-requires-clause-few : goal.widen-requires-clause-few
-widen-requires-clause-few g c = c.requires.few
+pub returns-clause-few : goal.returns-clause-few
+returns-clause-few g c =
+    let inv = c.places.invariant in
+    let few = classes_few c.args.tree.now.now c.args.classes.now.items c.requires.classes in
+    omega (arith, few, inv.size, inv.way.within, c.requires.room, ap (λ (a : Arena). a.max) inv.rest)
 
-pub returns-in-Err-clause-frame : goal.returns-in-Err-clause-frame
-returns-in-Err-clause-frame g c = c.move_class.ensures.frame ∙ c.places.invariant.frame
+pub returns-clause-rest : goal.returns-clause-rest
+returns-clause-rest g c = c.places.invariant.rest
 
-pub returns-clause-frame : goal.returns-clause-frame
-returns-clause-frame g c = c.places.invariant.frame
+pub returns-clause-steps : goal.returns-clause-steps
+returns-clause-steps g c = omega (arith, c.places.invariant.steps, c.places.invariant.way.within)
