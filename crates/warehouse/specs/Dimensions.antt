@@ -20,6 +20,8 @@ pub record AreWidened (value : Text) (cube cube' : Cube) : Type 0 where
   pub rows : rows_of cube'.table ≡ map (with_code 0) (rows_of cube.table)
   pub frame : frame cube'.table ≡ record (frame cube.table) { dims = cube.table.dims + 1 }
   pub valid : IsTable cube'.table
+  pub canonical : IsTreeOf (cube.table.dims + 1) cube'.tree.now
+      (record { measures = cube.table.measures; rows = rows_of cube'.table })
   pub kept : KeepsWidened cube.table.dims cube.tree.now cube'.tree.now
   pub few : finmap.len cube'.tree.now ≤ cube'.tree.max
   pub of_tree : cube'.tree ≡ record cube.tree { width = cube.table.dims + 1; now = cube'.tree.now }

@@ -2,7 +2,7 @@
 // value.
 ghost use Rattle.std.specs.FinMap as finmap;
 ghost use Rattle.std.specs.Ordering.{nat_cmp};
-ghost use Rattle.std.specs.Prelude.{Err, IfOk, List, None, Ok, OnErr, OnOk, Some, false, if◌then◌else◌, length, map, nat_le, nat_lt, ℕ, ◌*◌, ◌+◌, ◌-◌, ◌<◌, ◌≡◌, ◌≤◌};
+ghost use Rattle.std.specs.Prelude.{Err, IfOk, List, None, Ok, OnErr, OnOk, Some, false, if◌then◌else◌, length, map, nat_le, nat_lt, true, ℕ, ◌*◌, ◌+◌, ◌-◌, ◌<◌, ◌≡◌, ◌≤◌};
 ghost use Rattle.base_table.specs.Places.{IsTable, rows_of, with_code};
 ghost use Rattle.cell_core.specs.Gives.{Gives};
 ghost use Rattle.cell_core.specs.declared.cell.NodeNo as numbers;
