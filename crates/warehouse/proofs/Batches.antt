@@ -139,8 +139,8 @@ module _ (schema : Layout) (cube cube0 cube1 : Cube) (is : IsStored schema cube.
       record {
         numbers = in_place.numbers;
         apart = in_place.apart;
-        touches = λ k before now. images-touched cube.tree cube0.tree cube1.tree cube2.tree.last
-            (ap (λ (c : Cube). c.tree) opened) changed.of_tree committed.last k (in_place.touches k before now);
+        touches = λ k before now.
+            images-touched cube1.tree cube2.tree.last committed.last k (in_place.touches k before now);
         steps = in_place.steps;
       } in
       subst (λ (d : TextLists). IsInPlace (state_in schema cube) changes d.lists cube.tree.now cube2.tree.now touched

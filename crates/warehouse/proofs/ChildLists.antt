@@ -1,6 +1,6 @@
 -- The classes of a tree hand their aggregates to children, as their list is gone through, and get them back.
-use Rattle.std.proofs.Common.{◌≡◌, ◌≢◌, ◌⊎◌, inl, inr, ℕ, zero, suc, ◌+◌, ◌-◌, ◌<◌, ◌≤◌, Bool, true, false, cond, ◌||◌, Option, Some, None, List}
-use Rattle.std.proofs.Common.{[], ◌∷◌, ◌++◌, length, is_some, take, slice_get, set, nat_eq, nat_cmp, refl, sym, ap, ap₂, subst, ◌∙◌, arith, true≢false}
+use Rattle.std.proofs.Common.{◌≡◌, ◌≢◌, inl, inr, ℕ, zero, suc, ◌+◌, ◌-◌, ◌<◌, ◌≤◌, Bool, true, false, cond, ◌||◌, Option, Some, None, List}
+use Rattle.std.proofs.Common.{[], ◌∷◌, ◌++◌, length, is_some, take, slice_get, set, nat_eq, refl, sym, ap, ap₂, subst, ◌∙◌, arith, true≢false}
 use Rattle.std.proofs.Common.{eq-eqb, eqb-true}
 use Rattle.std.specs.Prelude.{IsSome}
 use Rattle.std.proofs.lemmas.Bool.Decides.{eqb_tells}
@@ -23,7 +23,7 @@ use Rattle.qc_arena.specs.RecordReaders.{number, record_at, record_or}
 use Rattle.qc_arena.specs.Resized.{resized}
 use Rattle.tree_laws.proofs.CallerLemmas.{some_same}
 use Rattle.warehouse.specs.ClassMoves.{HasMovedClasses, HaveChildren, IsWide, heir, is_listed}
-use Rattle.warehouse.specs.Lowered.{HandsDown, IsChildOf, TakesBack, heir_of, with_forced_child}
+use Rattle.qc_arena.specs.Lowered.{HandsDown, IsChildOf, TakesBack, heir_of, with_forced_child}
 use Rattle.warehouse.specs.NodeLists.{ListsClasses}
 use Rattle.warehouse.specs.Widening.{KeepsWidened}
 use Rattle.warehouse.proofs.ListedClasses.{apart_once, classes_apart, listed_there}
@@ -106,15 +106,15 @@ one_more dim node to tree after t move =
     ∙ cond-false (nat_eq to node) _ _ (false_from_ne_true _ (λ e. differs (eqb-true to node e))) ∙ move.free in
     let same : after ≡ map.insert mid to child
     = map.same_map nat_cmp_total map.nat_cmp-IsAntisymmetric after (map.insert mid to child) (λ q.
-        elim (eqb_tells q to) [
-          | inl e ↦ ap (map.get after) e.1 ∙ move.child ∙ sym (all_at q ∙ cond-true (nat_eq q to) _ _ e.0)
-          | inr f ↦ elim (eqb_tells q node) [
-            | inl e ↦ ap (map.get after) e.1 ∙ move.here ∙ ap (option_map (with_forced_child dim to)) n.1
-                ∙ sym (all_at q ∙ cond-false (nat_eq q to) _ _ f.0 ∙ mid_at q ∙ cond-true (nat_eq q node) _ _ e.0)
-            | inr g ↦ move.others q g.1 f.1
-                ∙ sym (all_at q ∙ cond-false (nat_eq q to) _ _ f.0 ∙ mid_at q ∙ cond-false (nat_eq q node) _ _ g.0)
-          ]
-        ]) in
+    elim (eqb_tells q to) [
+      | inl e ↦ ap (map.get after) e.1 ∙ move.child ∙ sym (all_at q ∙ cond-true (nat_eq q to) _ _ e.0)
+      | inr f ↦ elim (eqb_tells q node) [
+        | inl e ↦ ap (map.get after) e.1 ∙ move.here ∙ ap (option_map (with_forced_child dim to)) n.1
+            ∙ sym (all_at q ∙ cond-false (nat_eq q to) _ _ f.0 ∙ mid_at q ∙ cond-true (nat_eq q node) _ _ e.0)
+        | inr g ↦ move.others q g.1 f.1
+            ∙ sym (all_at q ∙ cond-false (nat_eq q to) _ _ f.0 ∙ mid_at q ∙ cond-false (nat_eq q node) _ _ g.0)
+      ]
+    ]) in
     ap (λ (m : Tree ℕ). map.len m) same
     ∙ map.len-insert nat_cmp_total mid to child ∙ cond-false _ _ _ (ap is_some free)
     ∙ ap (λ m. m + 1) (map.len-insert nat_cmp_total tree node own ∙ cond-true _ _ _ t)

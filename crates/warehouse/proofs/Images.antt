@@ -38,11 +38,9 @@ begun a = record a { was = Some (shape_of a); touched = set.empty; last = finmap
 -- what was committed can be put back over the tree
 pub over-begun : (before opened changed : Arena) (images : ImageMap) (now : Tree ℕ) → opened ≡ begun before
     → frame changed ≡ frame opened
-    → IfSome changed.was (λ shape. shape.width ≡ changed.width → overlaid images now ≡ shape.tree)
+    → IfSome changed.was (λ shape. overlaid images now ≡ shape.tree)
     → overlaid images now ≡ before.now
 over-begun before opened changed images now begins same kept =
     let all : frame changed ≡ frame (begun before) = same ∙ ap frame begins in
     let was : changed.was ≡ Some (shape_of before) = ap (λ (a : Arena). a.was) all in
-    let back = subst (λ (o : Option Shape). IfSome o (λ shape. shape.width ≡ changed.width
-    → overlaid images now ≡ shape.tree)) was kept in
-    back (sym (ap (λ (a : Arena). a.width) all))
+    subst (λ (o : Option Shape). IfSome o (λ shape. overlaid images now ≡ shape.tree)) was kept

@@ -1,8 +1,7 @@
 -- The classes of a tree are handed on to new children, one after another, and taken back.
 use Rattle.std.proofs.Common.{◌≡◌, ◌≢◌, ◌⊎◌, inl, inr, ℕ, zero, suc, ◌+◌, ◌<◌, ◌≤◌, Bool, true, false, cond, ◌||◌, ◌&&◌, not, Option, Some, None, List}
-use Rattle.std.proofs.Common.{[], ◌∷◌, ◌++◌, filter, length, is_some, take, slice_get, set, nat_eq, refl, sym, ap, ap₂, subst, ◌∙◌, arith, true≢false}
+use Rattle.std.proofs.Common.{[], ◌∷◌, ◌++◌, length, is_some, nat_eq, refl, sym, ap, ap₂, ◌∙◌, arith, true≢false}
 use Rattle.std.proofs.Common.{eq-eqb, eqb-true}
-use Rattle.std.specs.Prelude.{IsSome}
 use Rattle.std.proofs.lemmas.Bool.Decides.{eqb_tells}
 use Rattle.std.proofs.lemmas.Bool.{cond-true, cond-false, false_from_ne_true}
 use Rattle.std.proofs.Math.Bool.{or-true, or-false}
@@ -10,18 +9,16 @@ use Rattle.std.specs.Cmp.{nat_cmp_total}
 use Rattle.std.specs.FinMap as map
 use Rattle.std.specs.List.{AllByRecursion}
 use Rattle.std.specs.Option.{option_map}
-use Rattle.cell_core.specs.declared.cell.NodeNo.{NodeNo}
 use Rattle.cube_defs.specs.Cell.{Cell, depth, with_value}
 use Rattle.cube_defs.specs.Tree.{Edge, Tree}
 use Rattle.cube_laws.proofs.CallerLemmas.{depth-le}
-use Rattle.qc_arena.specs.Changes.{AreClassNumbers, class_in}
 use Rattle.qc_arena.specs.Edges.{drop_label, put_edge}
 use Rattle.qc_arena.specs.Map.{Known}
-use Rattle.qc_arena.specs.RecordReaders.{label_lt, record_at, record_or}
+use Rattle.qc_arena.specs.RecordReaders.{label_lt, record_or}
 use Rattle.qc_arena.specs.Resized.{resize, resized}
 use Rattle.tree_laws.proofs.CallerLemmas.{some_same}
-use Rattle.warehouse.specs.ClassMoves.{HasMovedClasses, HaveChildren, IsWide, heir, is_listed}
-use Rattle.warehouse.specs.Lowered.{HandsDown, IsChildOf, TakesBack, heir_of, label_to, with_class_back, with_forced_child}
+use Rattle.warehouse.specs.ClassMoves.{HasMovedClasses, IsWide}
+use Rattle.qc_arena.specs.Lowered.{HandsDown, TakesBack, heir_of, label_to, with_class_back, with_forced_child}
 use Rattle.widen_laws.proofs.CallerLemmas.{depth-any_after, value_after}
 use Rattle.widen_laws.specs.Widened.{and_any, and_value, child_by_number, with_forced_value_by_number, with_any_by_number}
 

@@ -1,7 +1,7 @@
 -- Which numbers are touched as rows go and come.
 use Rattle.std.proofs.Common.{◌≡◌, ◌∙◌, ◌≤◌, ◌<◌, ◌+◌, ℕ, ℤ, List, [], ◌∷◌, ◌++◌, Bool, Option, Some, None, true, false, ap, subst, sym}
 use Rattle.std.proofs.Common.{is_some, length, refl, true≢false}
-use Rattle.std.specs.Prelude.{IfSome, nat_eq, if◌then◌else◌}
+use Rattle.std.specs.Prelude.{nat_eq, if◌then◌else◌}
 use Rattle.std.specs.FinMap as finmap
 use Rattle.std.specs.FinSet as set
 use Rattle.std.specs.List.{All}
@@ -11,13 +11,11 @@ use Rattle.base_table.specs.Places.{Places, row_with_id, rows_in}
 use Rattle.cube_defs.specs.Cell.{Cell, cell_of, leq}
 use Rattle.cube_defs.specs.Rows.{Row}
 use Rattle.cube_defs.specs.Tree.{Tree, cell_at}
-use Rattle.qc_arena.specs.Codes.{Shape}
-use Rattle.qc_arena.specs.Map.{Arena, ImageMap, frame, is_touched, shape_of, was_at}
+use Rattle.qc_arena.specs.Map.{Arena, ImageMap, is_touched, was_at}
 use Rattle.warehouse.specs.Batch.{is_among}
 use Rattle.warehouse.specs.InPlace.{KeepsNumbers, TouchesNoOthers, TouchesOnly, gone, has_image, kept}
 use Rattle.warehouse.specs.Steps.{rows_at, rows_between}
 use Rattle.warehouse.proofs.Deletions.{all-gone, here-gone, kept-row}
-use Rattle.warehouse.proofs.Images.{begun}
 use Rattle.warehouse.proofs.TreeInsertions.{IsRowAt, all-left, all-right, between-more}
 
 -- a cell doesn't generalize a row's tuple
@@ -79,15 +77,8 @@ touched-both goes comes rows b d e all none one two k before now =
     (ap (λ (s : set.FinSet nat_cmp). set.contains s k) none ∙ set.contains-empty nat_cmp k))
 
 -- the images of a batch that was kept are those of the touched numbers
-pub images-touched : (before opened changed : Arena) (images : ImageMap) → opened ≡ begun before
-    → frame changed ≡ frame opened
-    → IfSome changed.was (λ shape. shape.width ≡ changed.width → (q : ℕ)
-    → finmap.get images q ≡ (if is_touched changed q then Some (was_at changed q) else None))
+pub images-touched : (changed : Arena) (images : ImageMap)
+    → ((q : ℕ) → finmap.get images q ≡ (if is_touched changed q then Some (was_at changed q) else None))
     → (q : ℕ) → is_touched changed q ≡ false → has_image images q ≡ false
-images-touched before opened changed images begins same last q untouched =
-    let all : frame changed ≡ frame (begun before) = same ∙ ap frame begins in
-    let was : changed.was ≡ Some (shape_of before) = ap (λ (a : Arena). a.was) all in
-    let each = subst (λ (o : Option Shape). IfSome o (λ shape. shape.width ≡ changed.width → (q : ℕ)
-    → finmap.get images q ≡ (if is_touched changed q then Some (was_at changed q) else None))) was last in
-    ap is_some (each (sym (ap (λ (a : Arena). a.width) all)) q
-    ∙ ap (λ (s : Bool). if s then Some (was_at changed q) else None) untouched)
+images-touched changed images last q untouched =
+    ap is_some (last q ∙ ap (λ (s : Bool). if s then Some (was_at changed q) else None) untouched)

@@ -74,10 +74,9 @@ pub record IsCommitted (cube cube' : Cube) : Type 0 where
   pub frame : frame cube'.table ≡ frame (closed cube.table)
   pub valid : IsTable cube'.table
   pub of_tree : cube'.tree ≡ record cube.tree { was = None; touched = set.empty; last = cube'.tree.last }
-  pub images : IfSome cube.tree.was (λ shape. shape.width ≡ cube.tree.width
-      → overlaid cube'.tree.last cube'.tree.now ≡ shape.tree)
-  pub last : IfSome cube.tree.was (λ shape. shape.width ≡ cube.tree.width
-      → (q : ℕ) → finmap.get cube'.tree.last q ≡ (if is_touched cube.tree q then Some (was_at cube.tree q) else None))
+  pub images : IfSome cube.tree.was (λ shape. overlaid cube'.tree.last cube'.tree.now ≡ shape.tree)
+  pub last : (q : ℕ)
+      → finmap.get cube'.tree.last q ≡ (if is_touched cube.tree q then Some (was_at cube.tree q) else None)
 
 -- an open batch was taken back, and each dimension was cut to so many texts
 pub record IsRolledBack (lens : List ℕ) (cube cube' : Cube) : Type 0 where

@@ -1,5 +1,5 @@
 -- How far the classes of a tree are handed on to new children, as they are gone through.
-use Rattle.std.specs.Prelude.{ℕ, Bool, true, false, ◌≡◌, ◌⊎◌, ◌<◌, ◌≤◌, ◌+◌, List, Option, Some, None, length, is_some, nat_eq, slice_get, take}
+use Rattle.std.specs.Prelude.{ℕ, Bool, true, false, ◌≡◌, ◌⊎◌, ◌<◌, ◌≤◌, ◌+◌, List, Some, None, length, is_some, nat_eq, slice_get, take}
 use Rattle.std.specs.FinMap as map
 use Rattle.std.specs.List.{AllByRecursion, list_any}
 use Rattle.std.specs.Option.{option_map}

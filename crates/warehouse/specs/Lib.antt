@@ -10,4 +10,3 @@ pub mod NodeLists
 pub mod Counted
 pub mod Dimensions
 pub mod Changing
-pub mod Lowered

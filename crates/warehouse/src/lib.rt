@@ -12,7 +12,6 @@ mod parts;
 mod refused;
 mod row_insertion;
 mod store;
-mod stub;
 mod widening;
 
 pub use cube_defs::Memory;

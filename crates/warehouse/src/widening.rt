@@ -37,8 +37,8 @@ use qc_schema::Schema;
 use std::alloc::Global;
 use std::sync::ledger::Ledger;
 
-// Gives the first so many classes of a list back to the parents of the nodes in their places, and
-// removes the last dimension: the tree is that of before the dimension came. Takes no memory.
+// Gives the classes of the nodes at the first so many places of a list back to their parents, and
+// removes the last dimension: the tree is the one of before the dimension came. Takes no memory.
 fn narrow_tree<L: Ledger>(
     tree: &mut QcArena,
     classes: &mut Vec<NodeNo>,
@@ -58,9 +58,9 @@ fn narrow_tree<L: Ledger>(
 {
     let dim = tree.dims() - 1;
     'places: for place in (0..count).rev() {
-        classes[place] = crate::stub::take_back(tree, classes[place], dim, steps);
+        classes[place] = tree.take_back(classes[place], dim, steps);
     }
-    crate::stub::narrow(tree);
+    tree.narrow();
 }
 
 // Adds a dimension to the tree, in which all rows have the code 0. Each class moves to a new child,
@@ -88,9 +88,9 @@ fn widen_tree<L: Ledger>(
     ensures steps { OnOk result (steps.new ≤ steps.old + length classes.old.items) }
 {
     let dim = tree.dims();
-    crate::stub::widen(tree);
+    tree.widen();
     'places: for place in 0..classes.len() {
-        classes[place] = match crate::stub::hand_down(tree, classes[place], dim, steps) {
+        classes[place] = match tree.hand_down(classes[place], dim, steps) {
             Ok(child) => child,
             Err(error) => {
                 narrow_tree(tree, classes, place, steps);

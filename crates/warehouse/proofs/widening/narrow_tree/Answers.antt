@@ -1,4 +1,4 @@
-use Rattle.std.proofs.Common.{◌≡◌, ◌<◌, ◌+◌, ◌-◌, ◌∙◌, ℕ, List, Some, ap, arith, length, refl, slice_get, slice_index_or, subst, sym}
+use Rattle.std.proofs.Common.{◌≡◌, ◌<◌, ◌+◌, ◌-◌, ◌∙◌, ℕ, List, Some, ap, arith, refl, slice_get, slice_index_or, subst, sym}
 use Rattle.std.proofs.lemmas.Option.{slice_get-get_or}
 use Rattle.std.specs.FinMap as finmap
 use Rattle.std.specs.Option.{option_map}
@@ -7,7 +7,7 @@ use Rattle.cube_defs.specs.Tree.{Tree}
 use Rattle.qc_arena.specs.Map.{Arena, is_open}
 use Rattle.qc_arena.specs.Resized.{resized}
 use Rattle.warehouse.specs.ClassMoves.{HaveChildren}
-use Rattle.warehouse.specs.Lowered.{TakesBack}
+use Rattle.qc_arena.specs.Lowered.{TakesBack}
 use Rattle.warehouse.proofs.ChildLists.{goes_back, is_child, last_free, returns_to}
 use Rattle.warehouse.proofs.widening.narrow_tree.Goals as goal
 
@@ -26,7 +26,7 @@ item_at dims place tree wide old now c some was same =
     slice_get-get_or now (place - 1) c (omega (arith, some, was.within, was.long)) ∙ ap (λ (y : NodeNo). Some y) (sym same)
 
 pub places-init : goal.places-init
-places-init g c = record { way = λ first old h. h; rest = refl; steps = refl; }
+places-init g c = record { way = λ first old h. h; rest = refl; steps = refl }
 
 pub index-requires : goal.index-requires
 index-requires g c =
@@ -60,11 +60,11 @@ places-preserved g c = record {
       goes_back (c.args.tree.now.width - 1) (c.places.place - 1) first c.places.tree.now old now c.index.result.now
       (before _ _ _ _ _ _ c.places-test.true was)
       (item_at _ c.places.place _ _ _ now c.index.result.now c.places-test.true was c.index.ensures)
-      c.take_back.new.tree.now c.take_back.result _ c.take_back.ensures.parent
-      (subst (λ d. TakesBack d c.take_back.result.0 c.places.tree.now c.take_back.new.tree.now c.index.result.now.0)
+      c.take_back.new.self.now c.take_back.result _ c.take_back.ensures.parent
+      (subst (λ d. TakesBack d c.take_back.result.0 c.places.tree.now c.take_back.new.self.now c.index.result.now.0)
       (ap (λ n. n - 1) c.dims-dim.ensures.value) c.take_back.ensures.back) refl;
   rest = c.take_back.ensures.rest
-      ∙ ap (λ (a : Arena). let b : Arena = record a { now = c.take_back.new.tree.now } in b) c.places.invariant.rest;
+      ∙ ap (λ (a : Arena). let b : Arena = record a { now = c.take_back.new.self.now } in b) c.places.invariant.rest;
   steps = omega (arith, c.places.invariant.steps, c.take_back.ensures.steps, c.places-test.true);
 }
 
@@ -88,21 +88,21 @@ narrow-requires-clause-free g c = λ q n at.
 pub returns-clause-back : goal.returns-clause-back
 returns-clause-back g c = λ first old h.
     let none : c.places.place ≡ 0 = omega (arith, c.places-test.false) in
-    let width : c.narrow.new.tree.width ≡ c.args.tree.now.width - 1
+    let width : c.narrow.new.self.width ≡ c.args.tree.now.width - 1
     = omega (arith, c.narrow.ensures.width, ap (λ (a : Arena). a.width) c.places.invariant.rest) in
     returns_to (c.args.tree.now.width - 1) first c.places.tree.now old c.places.classes.items
     (subst (λ n. HaveChildren (c.args.tree.now.width - 1) n first c.places.tree.now old c.places.classes.items) none
-    (c.places.invariant.way first old h)) c.narrow.new.tree.now
+    (c.places.invariant.way first old h)) c.narrow.new.self.now
     (λ q. c.narrow.ensures.nodes q ∙ ap (λ n. option_map (resized n) (finmap.get c.places.tree.now q)) width)
 
 pub returns-clause-rest : goal.returns-clause-rest
 returns-clause-rest g c =
-    let width : c.narrow.new.tree.width ≡ c.args.tree.now.width - 1
+    let width : c.narrow.new.self.width ≡ c.args.tree.now.width - 1
     = omega (arith, c.narrow.ensures.width, ap (λ (a : Arena). a.width) c.places.invariant.rest) in
     c.narrow.ensures.value
-    ∙ ap (λ (a : Arena). let b : Arena = record a { width = c.narrow.new.tree.width; now = c.narrow.new.tree.now } in b)
+    ∙ ap (λ (a : Arena). let b : Arena = record a { width = c.narrow.new.self.width; now = c.narrow.new.self.now } in b)
     c.places.invariant.rest
-    ∙ ap (λ (n : ℕ). let b : Arena = record c.args.tree.now { width = n; now = c.narrow.new.tree.now } in b) width
+    ∙ ap (λ (n : ℕ). let b : Arena = record c.args.tree.now { width = n; now = c.narrow.new.self.now } in b) width
 
 pub returns-clause-steps : goal.returns-clause-steps
 returns-clause-steps g c = omega (arith, c.places.invariant.steps, c.places-test.false)

@@ -1,4 +1,4 @@
-use Rattle.std.proofs.Common.{◌≡◌, ◌+◌, ◌∙◌, ℕ, List, Some, ap, ap₂, arith, length, map, nat_le, refl, subst, sym, ◌∷◌, []}
+use Rattle.std.proofs.Common.{◌≡◌, ◌+◌, ◌∙◌, ℕ, ap, ap₂, arith, length, nat_le, refl, subst, sym, ◌∷◌, []}
 use Rattle.std.specs.FinMap as finmap
 use Rattle.std.specs.Ordering.{nat_cmp}
 use Rattle.std.specs.Prelude.{Ok}
@@ -13,7 +13,6 @@ use Rattle.tree_laws.specs.Counts.{classes_in}
 use Rattle.tree_search.specs.Found.{IsTreeOf}
 use Rattle.value_dict.specs.TextLists as texts
 use Rattle.value_dict.specs.TextLists.{IsDictionary, TextLists}
-use Rattle.value_dict.specs.Decoded.{RowsAreCodes, decoded_row}
 use Rattle.warehouse.specs.Batch.{Applied}
 use Rattle.warehouse.specs.Changing.{AreParts, contents_of}
 use Rattle.warehouse.specs.State.{State}

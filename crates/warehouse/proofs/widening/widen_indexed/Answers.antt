@@ -1,4 +1,4 @@
-use Rattle.std.proofs.Common.{◌≡◌, ◌+◌, ◌-◌, ◌∙◌, ℕ, List, arith, length, map, subst, sym}
+use Rattle.std.proofs.Common.{◌≡◌, ◌-◌, arith, length, map, subst, sym}
 use Rattle.base_table.specs.Places.{with_code}
 use Rattle.tree_search.specs.Found.{IsTreeOf}
 use Rattle.warehouse.specs.ClassMoves.{HaveChildren}

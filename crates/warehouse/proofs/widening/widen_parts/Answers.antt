@@ -1,5 +1,5 @@
-use Rattle.std.proofs.Common.{◌∙◌, ◌+◌, ℕ, List, ap, map, subst, sym}
-use Rattle.base_table.specs.Places.{rows_of, with_code}
+use Rattle.std.proofs.Common.{◌∙◌, ◌+◌, ℕ, List, ap, subst, sym}
+use Rattle.base_table.specs.Places.{rows_of}
 use Rattle.cube_defs.specs.Rows.{Row}
 use Rattle.qc_arena.specs.Map.{Arena}
 use Rattle.tree_search.specs.Found.{IsTreeOf}

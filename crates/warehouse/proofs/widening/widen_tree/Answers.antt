@@ -1,4 +1,4 @@
-use Rattle.std.proofs.Common.{◌≡◌, ◌≤◌, ◌<◌, ◌+◌, ◌-◌, ◌∙◌, ℕ, List, Some, ap, arith, length, refl, slice_get, slice_index_or, subst, sym}
+use Rattle.std.proofs.Common.{◌≡◌, ◌≤◌, ◌<◌, ◌-◌, ◌∙◌, ℕ, List, Some, ap, arith, length, refl, slice_get, slice_index_or, subst, sym}
 use Rattle.std.proofs.lemmas.Option.{slice_get-get_or}
 use Rattle.cell_core.specs.declared.cell.NodeNo.{NodeNo}
 use Rattle.cube_defs.specs.Cell.{depth}
@@ -6,7 +6,7 @@ use Rattle.cube_defs.specs.Tree.{Tree}
 use Rattle.qc_arena.specs.Map.{Arena, is_open}
 use Rattle.qc_arena.specs.RecordReaders.{record_at}
 use Rattle.warehouse.specs.ClassMoves.{HaveChildren}
-use Rattle.warehouse.specs.Lowered.{HandsDown}
+use Rattle.qc_arena.specs.Lowered.{HandsDown}
 use Rattle.warehouse.proofs.ChildLists.{arrives, can_narrow, goes_on, lists_children, narrowed, next_is_class, next_shallow}
 use Rattle.warehouse.proofs.ChildLists.{next_there, no_more_wide, one_more, sets_out}
 use Rattle.warehouse.proofs.ListedClasses.{classes_few}
@@ -19,10 +19,10 @@ item_at now place x within same = slice_get-get_or now place x within ∙ ap (λ
 
 pub places-init : goal.places-init
 places-init g c = record {
-  way = sets_out c.args.tree.now.width c.args.tree.now.now c.widen.new.tree.now c.args.classes.now.items c.requires.wide
+  way = sets_out c.args.tree.now.width c.args.tree.now.now c.widen.new.self.now c.args.classes.now.items c.requires.wide
       c.requires.classes c.widen.ensures.nodes;
   rest = c.widen.ensures.value;
-  size = let few = no_more_wide c.args.tree.now.now c.widen.new.tree.now c.widen.ensures.nodes in omega (arith, few);
+  size = let few = no_more_wide c.args.tree.now.now c.widen.new.self.now c.widen.ensures.nodes in omega (arith, few);
   steps = omega arith;
 }
 
@@ -96,7 +96,7 @@ narrow_tree-requires-clause-moved g c =
       c.args.tree.now.now,
       old,
       subst (λ (a : Arena). HaveChildren (a.width - 1) c.places.place c.args.tree.now.now a.now old c.places.classes.items)
-          (sym (unmoved c.places.tree c.hand_down.new.tree c.hand_down.ensures.rest c.in-Err.ensures.err))
+          (sym (unmoved c.places.tree c.hand_down.new.self c.hand_down.ensures.rest c.in-Err.ensures.err))
           (can_narrow c.args.tree.now c.places.tree c.places.place old c.places.classes.items inv.rest inv.way),
     )
 
@@ -104,8 +104,8 @@ pub returns-in-Err-clause-err : goal.returns-in-Err-clause-err
 returns-in-Err-clause-err g c =
     let inv = c.places.invariant in
     let old = c.args.classes.now.items in
-    let same : c.hand_down.new.tree ≡ c.places.tree
-    = unmoved c.places.tree c.hand_down.new.tree c.hand_down.ensures.rest c.in-Err.ensures.err in
+    let same : c.hand_down.new.self ≡ c.places.tree
+    = unmoved c.places.tree c.hand_down.new.self c.hand_down.ensures.rest c.in-Err.ensures.err in
     let have = subst (λ (a : Arena). HaveChildren (a.width - 1) c.places.place c.args.tree.now.now a.now old
     c.places.classes.items) (sym same)
     (can_narrow c.args.tree.now c.places.tree c.places.place old c.places.classes.items inv.rest inv.way) in
@@ -121,17 +121,17 @@ places-preserved g c =
     let x = c.index.result.now in
     let at = item_at c.places.classes.items c.places.place x
     (omega (arith, inv.way.long, c.places-test.true, c.len-place-end.ensures)) c.index.ensures in
-    let move = subst (λ d. HandsDown d x.0 c.places.tree.now c.hand_down.new.tree.now c.in-Ok.child.0)
+    let move = subst (λ d. HandsDown d x.0 c.places.tree.now c.hand_down.new.self.now c.in-Ok.child.0)
     c.dims-dim.ensures.value c.in-Ok.ensures.moved in
     let there = next_there c.args.tree.now.width c.places.place c.args.tree.now.now c.places.tree.now
     c.args.classes.now.items c.places.classes.items x inv.way at in
-    let longer = one_more c.args.tree.now.width x.0 c.in-Ok.child.0 c.places.tree.now c.hand_down.new.tree.now there
+    let longer = one_more c.args.tree.now.width x.0 c.in-Ok.child.0 c.places.tree.now c.hand_down.new.self.now there
     move in
     record {
       way = goes_on c.args.tree.now.width c.places.place c.args.tree.now.now c.places.tree.now c.args.classes.now.items
-          c.places.classes.items x inv.way at c.hand_down.new.tree.now c.in-Ok.child _ move refl;
+          c.places.classes.items x inv.way at c.hand_down.new.self.now c.in-Ok.child _ move refl;
       rest = c.hand_down.ensures.rest
-          ∙ ap (λ (a : Arena). let b : Arena = record a { now = c.hand_down.new.tree.now } in b) inv.rest;
+          ∙ ap (λ (a : Arena). let b : Arena = record a { now = c.hand_down.new.self.now } in b) inv.rest;
       size = omega (arith, longer, inv.size);
       steps = omega (arith, inv.steps, c.hand_down.ensures.steps);
     }
