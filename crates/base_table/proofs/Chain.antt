@@ -1,13 +1,14 @@
 -- A push and a pop keep the chains, and a walk along one finds the last place of a key.
 use Rattle.std.proofs.Common.{◌≡◌, ℕ, ◌+◌, ◌%◌, ◌<◌, ◌≤◌, ◌^◌, length, List, [], ◌∷◌, ◌++◌, Bool, true, false, cond, refl, ap, sym, subst}
 use Rattle.std.proofs.Common.{◌∙◌, arith, take, get_or, set, length-append, inl, inr, zero, suc, nat_eq}
-use Rattle.std.proofs.lemmas.List.{get_or_append_left, get_or_push, get_or-set_other, get_or-set_same, get_or-take, length-take-le}
+use Rattle.std.proofs.lemmas.List.{get_or_append_left, get_or_push, get_or_read, get_or-set_other, get_or-set_same, get_or-take}
+use Rattle.std.proofs.lemmas.List.{length-take, length-take-le}
 use Rattle.std.proofs.lemmas.List.{take-append-le, take-take, take_more}
 use Rattle.std.proofs.lemmas.Bool.{cases_lt, eq-eqb, eqb-true}
 use Rattle.std.proofs.lemmas.Bool.Decides.{eqb_tells}
 use Rattle.std.proofs.Math.ListN.{length-set}
 use Rattle.std.proofs.Math.Seq.{take-append_seam, take-length}
-use Rattle.base_table.specs.Last.{last_of, AreChains, AreHeads, AreLinked, bucket_in, in_bucket}
+use Rattle.base_table.specs.Last.{last_of, AreChains, AreHeads, AreLinkable, AreLinked, bucket_in, in_bucket}
 use Rattle.base_table.proofs.LastPlaces.{last_passes, last_take, last_within, not_zero}
 
 -- the last place after one more element
@@ -42,6 +43,21 @@ pub last_narrow : {A : Type 0} (p q : A → Bool) → ((x : A) → p x ≡ true 
     → last_of p (take (last_of q xs) xs) ≡ last_of p xs
 last_narrow p q h [] = refl
 last_narrow p q h (x ∷ xs) = narrow_step p q x xs (last_of q xs) (h x) (last_narrow p q h xs)
+
+-- a key that was read is among the first ones
+pub read_first : {A : Type 0} (n : ℕ) (xs : List A) (k : ℕ) (x : A) → k < length (take n xs) → x ≡ get_or xs k x
+    → (d : A) → x ≡ get_or (take n xs) k d
+read_first n xs k x lt e d =
+    let both = length-take n xs in
+    get_or_read xs k x (grind (arith, lt, both)) e d ∙ sym (get_or-take n xs k d (grind (arith, lt, both)))
+
+-- the last place among one more of the first items
+pub last_more : {A : Type 0} (p : A → Bool) (xs : List A) (k : ℕ) (d : A) → k < length xs
+    → last_of p (take (k + 1) xs) ≡ cond (p (get_or xs k d)) (k + 1) (last_of p (take k xs))
+last_more p xs k d lt =
+    let n : suc (length (take k xs)) ≡ k + 1 = omega (arith, length-take-le k xs (omega (arith, lt))) in
+    ap (last_of p) (take_more xs k d lt) ∙ last_push p (take k xs) (get_or xs k d)
+    ∙ ap (λ m. cond (p (get_or xs k d)) m (last_of p (take k xs))) n
 
 -- a walk that started at a place of the key's bucket stands at one, and no place of the key was passed
 pub record IsOnWay {K : Type 0} (eq : K → K → Bool) (bucket : K → ℕ) (key : K) (keys : List K)
@@ -232,6 +248,19 @@ module _ {K : Type 0} (number : ℕ → K → ℕ) (multiplier : ℕ) (heads : L
         linked = subst (λ m. AreLinked (bucket_in number multiplier m) keys before) (sym n)
             (pop_link bucket heads keys key before head a.linked);
       }
+
+-- chains of all keys
+pub all_linked : {K : Type 0} (number : ℕ → K → ℕ) (multiplier : ℕ) (heads : List ℕ) (keys : List K) (before : List ℕ)
+    (room : ℕ) → AreChains number multiplier heads keys before → length before ≤ room
+    → AreLinkable number multiplier heads keys before room
+all_linked number multiplier heads keys before room a fits = record {
+  few = omega (arith, a.linked.len);
+  small = a.small;
+  some = a.some;
+  fits = omega (arith, a.linked.len, fits);
+  chains = subst (λ ks. AreChains number multiplier heads ks before)
+      (sym (ap (λ n. take n keys) a.linked.len ∙ take-length keys)) a;
+}
 
 module _ {K : Type 0} (eq : K → K → Bool) (number : ℕ → K → ℕ) (respects : (m : ℕ) (x y : K) → eq x y ≡ true
     → number m x ≡ number m y)

@@ -1,14 +1,15 @@
 // A list of keys that finds the last place of a key, and from each place the one before of the same
 // key.
-ghost use Rattle.std.specs.Prelude.{OnErr, OnOk, [], length, slice_index, slice_index_or, take, vec_capacity, vec_len, ◌+◌, ◌++◌, ◌-◌, ◌<◌, ◌∷◌, ◌^◌, ◌≡◌, ◌≤◌, ℕ};
-ghost use Rattle.base_table.specs.Last.{AreChains, bucket_in, in_bucket, last_of, picked};
+ghost use Rattle.std.specs.Prelude.{IfNone, IfSome, OnErr, OnOk, [], length, slice_index, slice_index_or, take, vec_capacity, vec_len, ◌+◌, ◌++◌, ◌-◌, ◌<◌, ◌∷◌, ◌^◌, ◌≡◌, ◌≤◌, ℕ};
+ghost use Rattle.base_table.specs.Last.{AreChains, AreLinkable, bucket_in, in_bucket, last_of, picked};
 
 use crate::numbered::Numbered;
 use std::alloc::{AllocError, Global};
 use std::marker::Model;
 
 // Keys in buckets. A head is one more than the last place of its bucket, or 0. Each place has one
-// more than the place before of the same bucket, or 0.
+// more than the place before of the same bucket, or 0. The last keys may have no links yet, but
+// there is room for these.
 #[derive(Drop)]
 pub(crate) struct Links<K: Numbered> {
     multiplier: u32,
@@ -18,22 +19,22 @@ pub(crate) struct Links<K: Numbered> {
 }
 
 /// A list of keys. The last place of a key is found in a few steps, and from a place the one before
-/// of the same key.
+/// of the same key. Keys without links are looked at one by one, from the end.
 #[derive(Drop)]
 pub struct Chains<K: Numbered> {
     links: Links<K>,
 }
 
 impl<K: Numbered> Model for Chains<K> {
-    ghost use Rattle.std.specs.Prelude.{List};
-    ghost use Rattle.base_table.specs.Last.{AreChains};
+    ghost use Rattle.std.specs.Prelude.{List, vec_capacity};
+    ghost use Rattle.base_table.specs.Last.{AreLinkable};
 
     ghost Value = { List K };
 
     ghost view = { λ c. c.links.keys.items };
 
-    ghost invariant = { λ c. AreChains K.number c.links.multiplier c.links.heads.items
-        c.links.keys.items c.links.before.items };
+    ghost invariant = { λ c. AreLinkable K.number c.links.multiplier c.links.heads.items
+        c.links.keys.items c.links.before.items (vec_capacity c.links.before) };
 }
 
 // The bucket of a key.
@@ -45,22 +46,73 @@ fn bucket<K: Numbered>(key: &K, multiplier: u32, heads: &Vec<u32>) -> usize
     key.number(multiplier) as usize % heads.len()
 }
 
-// One more than the last place of the key, or 0, by a walk that starts at the last place of its
-// bucket.
+// One more than the last place of the key among those with links, or 0, by a walk that starts at
+// the last place of its bucket.
 fn find_from<K: Numbered>(links: &Links<K>, key: &K, start: u32) -> u32
     requires chains { AreChains K.number links.now.multiplier links.now.heads.items
-        links.now.keys.items links.now.before.items }
-    requires within { start ≤ length links.now.keys.items }
+        (take (length links.now.before.items) links.now.keys.items) links.now.before.items }
+    requires within { start ≤ length (take (length links.now.before.items) links.now.keys.items) }
     requires last { last_of
         (in_bucket (bucket_in K.number links.now.multiplier (length links.now.heads.items)) key.now)
-        (take start links.now.keys.items) ≡ start }
-    ensures { result ≡ last_of (K.eq key.now) (take start links.now.keys.items) }
+        (take start (take (length links.now.before.items) links.now.keys.items)) ≡ start }
+    ensures { result ≡ last_of (K.eq key.now)
+        (take start (take (length links.now.before.items) links.now.keys.items)) }
 {
     let mut at = start;
     'places: while at > 0 && *key != links.keys[at as usize - 1] {
         at = links.before[at as usize - 1];
     }
     at
+}
+
+// One more than the last place of the key among those with links, or 0.
+fn last_linked<K: Numbered>(links: &Links<K>, key: &K) -> u32
+    requires { AreChains K.number links.now.multiplier links.now.heads.items
+        (take (length links.now.before.items) links.now.keys.items) links.now.before.items }
+    ensures { result ≡ last_of (K.eq key.now)
+        (take (length links.now.before.items) links.now.keys.items) }
+{
+    if links.heads.is_empty() {
+        return 0;
+    }
+    let at = bucket(key, links.multiplier, &links.heads);
+    find_from(links, key, links.heads[at])
+}
+
+// One more than the last place of the key among those before a place that have no links.
+fn last_unlinked<K: Numbered>(links: &Links<K>, key: &K, place: usize) -> Option<u32>
+    requires linked { length links.now.before.items ≤ place }
+    requires within { place ≤ length links.now.keys.items }
+    requires small { length links.now.keys.items < 2 ^ 32 }
+    ensures some { IfSome result (λ at. at ≡ last_of (K.eq key.now)
+        (take place links.now.keys.items)) }
+    ensures none { IfNone result (last_of (K.eq key.now) (take place links.now.keys.items)
+        ≡ last_of (K.eq key.now) (take (length links.now.before.items) links.now.keys.items)) }
+{
+    let mut at = place;
+    'places: while at > links.before.len() {
+        if *key == links.keys[at - 1] {
+            return Some(at as u32);
+        }
+        at -= 1;
+    }
+    None
+}
+
+// One more than the last place of the key before a place, or 0. The keys from there on have no
+// links.
+fn last_before<K: Numbered>(links: &Links<K>, key: &K, place: usize) -> u32
+    requires linked { length links.now.before.items ≤ place }
+    requires within { place ≤ length links.now.keys.items }
+    requires small { length links.now.keys.items < 2 ^ 32 }
+    requires chains { AreChains K.number links.now.multiplier links.now.heads.items
+        (take (length links.now.before.items) links.now.keys.items) links.now.before.items }
+    ensures { result ≡ last_of (K.eq key.now) (take place links.now.keys.items) }
+{
+    match last_unlinked(links, key, place) {
+        Some(at) => at,
+        None => last_linked(links, key),
+    }
 }
 
 // Links the first key that has no link yet.
@@ -94,6 +146,21 @@ fn blank(heads: &mut Vec<u32>)
     }
 }
 
+// Links the keys that have no links yet. Takes no memory.
+fn link_rest<K: Numbered>(links: &mut Links<K>)
+    requires { AreLinkable K.number links.old.multiplier links.old.heads.items
+        links.old.keys.items links.old.before.items (vec_capacity links.old.before) }
+    ensures chains { AreChains K.number links.new.multiplier links.new.heads.items
+        links.new.keys.items links.new.before.items }
+    ensures keys { links.new.keys ≡ links.old.keys }
+    ensures room { vec_capacity links.new.before ≡ vec_capacity links.old.before }
+    ensures heads { length links.new.heads.items ≡ length links.old.heads.items }
+{
+    'keys: while links.before.len() < links.keys.len() {
+        link_next(links);
+    }
+}
+
 // Links all keys from scratch. Takes no memory.
 fn relink<K: Numbered>(links: &mut Links<K>)
     requires small { length links.old.keys.items < 2 ^ 32 }
@@ -107,18 +174,16 @@ fn relink<K: Numbered>(links: &mut Links<K>)
 {
     blank(&mut links.heads);
     links.before.clear();
-    'keys: while links.before.len() < links.keys.len() {
-        link_next(links);
-    }
+    link_rest(links);
 }
 
 // Makes more buckets, if there are no more of them than so many keys.
 fn make_buckets<K: Numbered>(links: &mut Links<K>, keys: usize) -> Result<(), AllocError>
     requires few { keys < 2 ^ 33 }
-    requires chains { AreChains K.number links.old.multiplier links.old.heads.items
-        links.old.keys.items links.old.before.items }
-    ensures chains { AreChains K.number links.new.multiplier links.new.heads.items
-        links.new.keys.items links.new.before.items }
+    requires linkable { AreLinkable K.number links.old.multiplier links.old.heads.items
+        links.old.keys.items links.old.before.items (vec_capacity links.old.before) }
+    ensures linkable { AreLinkable K.number links.new.multiplier links.new.heads.items
+        links.new.keys.items links.new.before.items (vec_capacity links.new.before) }
     ensures keys { links.new.keys ≡ links.old.keys }
     ensures room { vec_capacity links.new.before ≡ vec_capacity links.old.before }
     ensures ok { OnOk result (0 < length links.new.heads.items) }
@@ -134,15 +199,17 @@ fn make_buckets<K: Numbered>(links: &mut Links<K>, keys: usize) -> Result<(), Al
 // There are some more buckets than twice the keys, after they were made.
 const FEW_BUCKETS: usize = 16;
 
-// Makes room for one more key and its link.
+// Makes room for one more key, and for the links of all keys.
 fn make_room<K>(keys: &mut Vec<K>, before: &mut Vec<u32>) -> Result<(), AllocError>
+    requires { vec_len before.old ≤ vec_len keys.old }
     ensures keys { keys.new.items ≡ keys.old.items }
     ensures before { before.new.items ≡ before.old.items }
     ensures key_room { OnOk result (vec_len keys.new < vec_capacity keys.new) }
-    ensures link_room { OnOk result (vec_len before.new < vec_capacity before.new) }
+    ensures link_room { OnOk result (vec_len keys.new < vec_capacity before.new) }
+    ensures room { vec_capacity before.old ≤ vec_capacity before.new }
 {
     keys.reserve(1)?;
-    before.reserve(1)
+    before.reserve(keys.len() + 1 - before.len())
 }
 
 // Moves the kept keys to the beginning, and gives their number.
@@ -205,12 +272,7 @@ impl<K: Numbered + Copy + Drop> Chains<K> {
     pub fn last(&self, key: &K) -> u32
         ensures value { result ≡ last_of (K.eq key.now) self.now }
     {
-        let links = &self.links;
-        if links.heads.is_empty() {
-            return 0;
-        }
-        let at = bucket(key, links.multiplier, &links.heads);
-        find_from(links, key, links.heads[at])
+        last_before(&self.links, key, self.links.keys.len())
     }
 
     /// One more than the last place of the same key before the place, or 0.
@@ -220,12 +282,16 @@ impl<K: Numbered + Copy + Drop> Chains<K> {
             (take place self.now) }
     {
         let links = &self.links;
-        let key = links.keys[place as usize];
-        find_from(links, &key, links.before[place as usize])
+        let place = place as usize;
+        let key = links.keys[place];
+        if place < links.before.len() {
+            return find_from(links, &key, links.before[place]);
+        }
+        last_before(links, &key, place)
     }
 
-    /// Appends a key.
-    pub fn push(&mut self, key: K) -> Result<(), AllocError>
+    /// Appends a key without a link.
+    pub fn push_unlinked(&mut self, key: K) -> Result<(), AllocError>
         requires { length self.old + 1 < 2 ^ 32 }
         ensures ok { OnOk result (self.new ≡ self.old ++ key ∷ []) }
         ensures err { OnErr result (self.new ≡ self.old) }
@@ -234,8 +300,26 @@ impl<K: Numbered + Copy + Drop> Chains<K> {
         let keys = self.links.keys.len();
         make_buckets(&mut self.links, keys)?;
         self.links.keys.push_reserved(key);
-        link_next(&mut self.links);
         Ok(())
+    }
+
+    /// Appends a key.
+    pub fn push(&mut self, key: K) -> Result<(), AllocError>
+        requires { length self.old + 1 < 2 ^ 32 }
+        ensures ok { OnOk result (self.new ≡ self.old ++ key ∷ []) }
+        ensures err { OnErr result (self.new ≡ self.old) }
+    {
+        self.push_unlinked(key)?;
+        self.link();
+        Ok(())
+    }
+
+    /// Links the keys that have no links yet. Many at once take less time than one by one. Takes no
+    /// memory.
+    pub fn link(&mut self)
+        ensures { self.new ≡ self.old }
+    {
+        link_rest(&mut self.links);
     }
 
     /// Makes room for so many more keys, so that their links are made once.
@@ -244,7 +328,9 @@ impl<K: Numbered + Copy + Drop> Chains<K> {
     {
         let links = &mut self.links;
         links.keys.reserve(more as usize)?;
-        links.before.reserve(more as usize)?;
+        links
+            .before
+            .reserve(links.keys.len() + more as usize - links.before.len())?;
         let keys = links.keys.len() + more as usize;
         make_buckets(links, keys)
     }
@@ -254,6 +340,7 @@ impl<K: Numbered + Copy + Drop> Chains<K> {
         requires { 0 < length self.old }
         ensures { self.new ≡ take (length self.old - 1) self.old }
     {
+        link_rest(&mut self.links);
         let key = self.links.keys.pop().unwrap();
         let head = self.links.before.pop().unwrap();
         let at = bucket(&key, self.links.multiplier, &self.links.heads);

@@ -216,13 +216,21 @@ impl Store {
         self.codes.reserve(most - self.codes.len())?;
         self.amounts.reserve(self.measures as usize)?;
         self.ids.push(id)?;
-        let Ok(()) = self.prints.push(self.printer.of(tuple)) else {
+        let Ok(()) = self.prints.push_unlinked(self.printer.of(tuple)) else {
             self.ids.pop();
             return Err(AllocError);
         };
         lines::push_codes(&mut self.codes, tuple);
         lines::push_amounts(&mut self.amounts, amounts);
         Ok(())
+    }
+
+    /// Prepares the look-up of rows by their fingerprints, of all rows that were appended since it was
+    /// prepared last. Takes no memory.
+    pub fn link_fingerprints(&mut self)
+        ensures { self.new ≡ self.old }
+    {
+        self.prints.link();
     }
 
     /// Makes room for the ids and fingerprints of so many more rows.

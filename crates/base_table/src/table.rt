@@ -280,6 +280,9 @@ impl Table {
         requires closed { self.old.was ≡ None }
         ensures value { self.new ≡ record self.old { was = Some (base_of self.old) } }
     {
+        // All rows so far in one go: a load inserts many, and no row of a batch is asked for by its
+        // tuple before the next one.
+        self.store.link_fingerprints();
         self.is_open = true;
     }
 

@@ -1,5 +1,5 @@
-//! Rows in the order of their tuples, the values that rows share, and groups of rows by their codes
-//! in a dimension.
+//! Rows in the order of the first values of their tuples, the values that rows share, and groups of
+//! rows by their codes in a dimension.
 #![tactic(auto)]
 
 mod by_code;

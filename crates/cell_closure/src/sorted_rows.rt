@@ -1,4 +1,4 @@
-// The rows of a table in the order of their tuples.
+// The rows of a table in the order of the first values of their tuples.
 ghost use Rattle.std.specs.Prelude.{All, IfOk, IfSome, flat_map, is_some, length, nat_abs, slice_index_or, true, ◌<◌, ◌≡◌, ◌≤◌};
 ghost use Rattle.cell_core.specs.Entry.{IsCode};
 ghost use Rattle.base_table.specs.Places.{AreThere, IsTable, named, row_at, rows_of};
@@ -15,8 +15,9 @@ use std::marker::Model;
 use std::mem::ManuallyDrop;
 use std::snapshot::Snapshot;
 
-/// A copy of the rows of a table in the order of their tuples: rows whose tuples begin alike lie
-/// next to each other. Tuples of one dimension keep the order of the table, since a walk groups
+/// A copy of the rows of a table in the order of the first values of their tuples: rows whose tuples
+/// begin alike lie next to each other. Only so many dimensions count for the order that few rows
+/// agree on all of them. Tuples of one dimension keep the order of the table, since a walk groups
 /// them only once. The number of a row is its place in this order.
 #[derive(Drop)]
 pub struct SortedRows {
@@ -46,7 +47,8 @@ impl Model for SortedRows {
 }
 
 impl SortedRows {
-    /// The rows of the table in the order of their tuples, or in its own if it has one dimension.
+    /// The rows of the table in the order of the first values of their tuples, or in its own if it
+    /// has one dimension.
     pub fn of(alloc: Global, table: &Table) -> Result<SortedRows, Memory>
         ensures rows { IfOk result (λ rows. Reordered (rows_of table.now) (rows_of rows)) }
         ensures dims { IfOk result (λ rows. rows.dims ≡ table.now.dims) }

@@ -14,8 +14,8 @@ push-requires c =
           c.self.invariant c.args.self.now c.self.view_is,
     )
 
-pub push-requires-2 : goal.push-requires-2
-push-requires-2 c =
+pub push_unlinked-requires : goal.push_unlinked-requires
+push_unlinked-requires c =
     let m = c.self.inside in
     omega (
       arith,
@@ -45,7 +45,7 @@ ids : (c : goal.After-push_amounts) → c.push.new.self ≡ c.self.inside.ids ++
 ids c = c.in_ok-push.ensures.ok
 
 prints : (c : goal.After-push_amounts)
-    → c.push-2.new.self ≡ c.self.inside.prints ++ print_in c.self.inside.printer c.args.tuple.now ∷ []
+    → c.push_unlinked.new.self ≡ c.self.inside.prints ++ print_in c.self.inside.printer c.args.tuple.now ∷ []
 prints c = c.in-Ok.ensures.ok ∙ ap (λ n. c.self.inside.prints ++ n ∷ []) c.of.ensures
 
 codes : (c : goal.After-push_amounts) → c.push_codes.new.codes.items ≡ c.self.inside.codes.items
@@ -62,7 +62,7 @@ room c = omega (arith, c.in_ok-reserve.ensures.ok, c.push_codes.ensures.capacity
 pub invariant_of-self-2 : goal.invariant_of-self-2
 invariant_of-self-2 c =
     let m = c.self.inside in
-    subst (λ (l : List ℕ). IsStore m.dims m.measures m.printer m.dims_then l c.push-2.new.self
+    subst (λ (l : List ℕ). IsStore m.dims m.measures m.printer m.dims_then l c.push_unlinked.new.self
     c.push_codes.new.codes.items c.push_amounts.new.amounts.items (vec_capacity c.push_codes.new.codes))
     (sym (ids c))
     (subst (λ (l : List ℕ). IsStore m.dims m.measures m.printer m.dims_then

@@ -1,6 +1,6 @@
 use Rattle.std.proofs.Common.{◌≡◌, ◌-◌, ◌≤◌, length, take, vec_capacity}
 use Rattle.base_table.specs.Last.{AreChains}
-use Rattle.base_table.proofs.chains.relink.Given as goal
+use Rattle.base_table.proofs.chains.link_rest.Given as goal
 
 abbrev pub invariant-keys : goal.invariant-keys
 invariant-keys g l = record {
