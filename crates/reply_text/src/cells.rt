@@ -6,7 +6,7 @@ ghost use Rattle.value_dict.specs.TextLists.{list_at};
 ghost use Rattle.value_dict.specs.Decoded.{HasTexts, text_of, decoded_cell};
 ghost use Rattle.reply_text.specs.Told.{texts-prop};
 
-use crate::fields::{push_field, push_number};
+use crate::fields::push_number;
 use crate::values::push_value;
 use cell_core::{Cell, Entry, Memory};
 use value_dict::Dict;
@@ -27,7 +27,10 @@ fn push_entry(out: &mut Vec<u8>, coded: &CodedCell<'_>, dim: u8) -> Result<(), M
         (slice_index_or coded.now.cell.now dim None))) }
 {
     match coded.cell.get(dim) {
-        Entry::Any => push_field(out, b"*"),
+        Entry::Any => {
+            out.extend_from_slice(b",*")?;
+            Ok(())
+        }
         Entry::Is(code) => push_value(out, coded.dict.text(dim, code).as_bytes()),
     }
 }
