@@ -1,7 +1,7 @@
 // Keys in rising order, in blocks none of which is empty.
 ghost use Rattle.std.specs.List.{All, insert, remove};
 ghost use Rattle.std.specs.Ordering.{is_gt};
-ghost use Rattle.std.specs.Prelude.{IfOk, OnErr, Vec, drop, length, slice_index_or, true, vec_capacity, vec_len, ◌+◌, ◌++◌, ◌-◌, ◌<◌, ◌≡◌, ◌≤◌};
+ghost use Rattle.std.specs.Prelude.{IfOk, OnErr, Vec, drop, if◌then◌else◌, is_ok, length, slice_index_or, true, vec_capacity, vec_len, ◌+◌, ◌++◌, ◌-◌, ◌<◌, ◌≡◌, ◌≤◌};
 ghost use Rattle.measure_index.specs.Blocks.{AreBlocks, AreBounds, HasCome, HasGone, joined, place_of};
 ghost use Rattle.measure_index.specs.ColumnKeys.{key_cmp};
 ghost use Rattle.measure_index.specs.Keys.{IsPlace, among};
@@ -38,7 +38,7 @@ fn begins_after(block: &Vec<Key>, key: &Key) -> bool
     ensures { (d : Key)
         → result ≡ is_gt (key_cmp (slice_index_or block.now.items 0 d) key.now) }
 {
-    block[0].compare(key).is_gt()
+    block[0].cmp(key).is_gt()
 }
 
 // The last block up to a number that doesn't begin after the key, and the first one from there on
@@ -87,7 +87,7 @@ fn place_in(keys: &[Key], key: &Key) -> usize
     let mut high = keys.len();
     'halves: while low < high {
         let middle = low + (high - low) / 2;
-        if keys[middle].compare(key).is_lt() {
+        if keys[middle].cmp(key).is_lt() {
             low = middle + 1;
         } else {
             high = middle;
@@ -108,7 +108,7 @@ fn spot_of(blocks: &[Vec<Key>], near: usize, key: &Key) -> Spot
     Spot {
         block,
         place,
-        found: place < keys.len() && keys[place].compare(key).is_eq(),
+        found: place < keys.len() && keys[place].cmp(key).is_eq(),
     }
 }
 
@@ -160,6 +160,17 @@ fn roomy_spot(
     Ok(spot_of(blocks, near, key))
 }
 
+// Adds a key at a place of a block. The keys from there on are moved at once.
+fn insert_at(block: &mut Vec<Key>, place: usize, key: Key) -> Result<(), Memory>
+    requires { place ≤ length block.old.items }
+    ensures { block.new.items
+        ≡ (if is_ok result then insert block.old.items place key else block.old.items) }
+{
+    block.push(key)?;
+    block[place..].rotate_right(1);
+    Ok(())
+}
+
 /// Adds a key if it isn't there, and says whether it came. The search begins at the block of the
 /// last one.
 pub(crate) fn insert_key(
@@ -182,9 +193,9 @@ pub(crate) fn insert_key(
     if spot.found {
         return Ok(false);
     }
-    match blocks[spot.block].insert(spot.place, key) {
+    match insert_at(&mut blocks[spot.block], spot.place, key) {
         Ok(()) => Ok(true),
-        Err(_) => Err(AllocError),
+        Err(error) => Err(error),
     }
 }
 

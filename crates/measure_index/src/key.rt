@@ -72,12 +72,16 @@ impl Ord for Key {
 
     ghost matches_eq = { λ x y. refl };
 
-    // The products are always computed. A test for equal divisors would be a branch that a sort of
-    // means mispredicts.
+    // Keys with equal divisors are compared by their numbers, without products.
     fn cmp(&self, other: &Key) -> Ordering {
-        let value = times(i128::from(self.num), u64::from(other.den));
-        let other_value = times(i128::from(other.num), u64::from(self.den));
-        value.cmp(&other_value).then(self.node.cmp(&other.node))
+        if self.den != other.den {
+            return self.compare_products(other);
+        }
+        if self.num == other.num {
+            self.node.cmp(&other.node)
+        } else {
+            self.num.cmp(&other.num)
+        }
     }
 }
 
@@ -85,14 +89,13 @@ impl Key {
     ghost use Rattle.std.specs.Prelude.{◌≡◌};
     ghost use Rattle.measure_index.specs.ColumnKeys.{key_cmp};
 
-    /// The same as `cmp`. Keys with equal divisors are compared by their numbers, without products.
-    pub(crate) fn compare(&self, other: &Key) -> Ordering
+    /// The same as `cmp`. The products are always computed. A test for equal divisors would be a
+    /// branch that a sort of means mispredicts.
+    pub(crate) fn compare_products(&self, other: &Key) -> Ordering
         ensures { result ≡ key_cmp self.now other.now }
     {
-        if self.den == other.den {
-            self.num.cmp(&other.num).then(self.node.cmp(&other.node))
-        } else {
-            self.cmp(other)
-        }
+        let value = times(i128::from(self.num), u64::from(other.den));
+        let other_value = times(i128::from(other.num), u64::from(self.den));
+        value.cmp(&other_value).then(self.node.cmp(&other.node))
     }
 }

@@ -23,6 +23,6 @@ pub(crate) fn sort_keys(keys: &mut Vec<Key>)
     if are_whole(keys) {
         keys.sort_unstable_by(|a, b| a.num.cmp(&b.num).then(a.node.cmp(&b.node)));
     } else {
-        keys.sort_unstable();
+        keys.sort_unstable_by(|a, b| a.compare_products(b));
     }
 }

@@ -40,11 +40,11 @@ returns-in-Ok-clause-come c =
     let spot = c.in_ok-spot.ensures.spot in
     let same = c.in_ok-spot.ensures.same in
     let block = c.index_mut.result.now in
-    let new = joined (set bs at.block c.insert.new.self) in
+    let new = joined (set bs at.block c.insert_at.new.block) in
     subst (λ ks. HasCome c.args.key ks new true) same
     (come_at c.args.key (joined bs) c.in_ok-spot.ensures.are.rising new (place_of bs at.block at.place)
-    (insert_in bs at.block block spot.block c.insert.new.self at.place c.args.key (spot.within block)
-    (c.in-Ok.ensures.items ∙ ap (λ b. insert b.items at.place c.args.key) c.index_mut.ensures.value))
+    (insert_in bs at.block block spot.block c.insert_at.new.block at.place c.args.key (spot.within block)
+    (c.in-Ok.ensures ∙ ap (λ b. insert b.items at.place c.args.key) c.index_mut.ensures.value))
     spot.place (sym c.if-spot.false ∙ spot.found))
 
 pub returns-in-Ok-clause-are : goal.returns-in-Ok-clause-are
@@ -53,21 +53,21 @@ returns-in-Ok-clause-are c =
     let at = c.in_ok-spot.spot in
     let spot = c.in_ok-spot.ensures.spot in
     let block = c.index_mut.result.now in
-    let items = c.in-Ok.ensures.items ∙ ap (λ b. insert b.items at.place c.args.key) c.index_mut.ensures.value in
-    let some : 0 < length c.insert.new.self.items
+    let items = c.in-Ok.ensures ∙ ap (λ b. insert b.items at.place c.args.key) c.index_mut.ensures.value in
+    let some : 0 < length c.insert_at.new.block.items
     = let now = ap length items in
     let more = length-insert (get_or bs at.block block).items at.place c.args.key (spot.within block) in
     omega (arith, now, more) in
     let come = returns-in-Ok-clause-come c in
-    set_are bs at.block block spot.block c.insert.new.self some come.rising c.in_ok-spot.ensures.are
+    set_are bs at.block block spot.block c.insert_at.new.block some come.rising c.in_ok-spot.ensures.are
 
 pub returns-in-Err-clause-err : goal.returns-in-Err-clause-err
 returns-in-Err-clause-err c =
     let bs = c.roomy_spot.new.blocks.items in
     let at = c.in_ok-spot.spot in
     let block = c.index_mut.result.now in
-    same_items bs at.block block c.in_ok-spot.ensures.spot.block c.insert.new.self
-    (c.in-Err.ensures.items ∙ ap (λ b. b.items) c.index_mut.ensures.value) ∙ c.in_ok-spot.ensures.same
+    same_items bs at.block block c.in_ok-spot.ensures.spot.block c.insert_at.new.block
+    (c.in-Err.ensures ∙ ap (λ b. b.items) c.index_mut.ensures.value) ∙ c.in_ok-spot.ensures.same
 
 pub returns-in-Err-clause-are : goal.returns-in-Err-clause-are
 returns-in-Err-clause-are c =
@@ -76,9 +76,9 @@ returns-in-Err-clause-are c =
     let block = c.index_mut.result.now in
     let spot = c.in_ok-spot.ensures.spot in
     let are = c.in_ok-spot.ensures.are in
-    let items = c.in-Err.ensures.items ∙ ap (λ b. b.items) c.index_mut.ensures.value in
-    set_are bs at.block block spot.block c.insert.new.self
+    let items = c.in-Err.ensures ∙ ap (λ b. b.items) c.index_mut.ensures.value in
+    set_are bs at.block block spot.block c.insert_at.new.block
     (subst (λ ks. 0 < length ks) (sym items)
     (All-get_or (λ (b : Block). 0 < length b.items) bs at.block block spot.block are.full))
-    (subst (IsStrictlySortedBy key_cmp) (sym (same_items bs at.block block spot.block c.insert.new.self items)) are.rising)
+    (subst (IsStrictlySortedBy key_cmp) (sym (same_items bs at.block block spot.block c.insert_at.new.block items)) are.rising)
     are

@@ -14,7 +14,7 @@ returns-then-place-keys c =
     c.args.key.now c.requires.are bounds c.place_in-place.result c.deref-keys.result.now
     (c.deref-keys.ensures.value ∙ ap (λ b. b.items) block.is) c.place_in-place.ensures c.is_eq.result key.result
     c.if-place-keys.true
-    (c.is_eq.ensures ∙ ap is_eq (c.compare.ensures ∙ ap (λ x. key_cmp x c.args.key.now) key.is))
+    (c.is_eq.ensures ∙ ap is_eq (c.cmp.ensures ∙ ap (λ x. key_cmp x c.args.key.now) key.is))
 
 pub returns-else-place-keys : goal.returns-else-place-keys
 returns-else-place-keys c =
