@@ -1,13 +1,11 @@
 -- Keys that are whole numbers.
-use Rattle.std.proofs.Common.{◌≡◌, ◌+◌, ◌∙◌, ◌*ℤ◌, List, ℤ, slice_index_or, is_lt, pos, refl, ap, ap₂, sym, arith}
+use Rattle.std.proofs.Common.{◌≡◌, ◌+◌, ◌∙◌, ◌*ℤ◌, List, slice_index_or, is_lt, pos, ap, ap₂, sym, arith}
 use Rattle.std.proofs.Math.Nat.{zero-lt-suc}
 use Rattle.std.specs.Cmp.{IsTotalOrder, int_cmp_total, nat_cmp_total, on_total, then_total}
 use Rattle.std.specs.List.{All}
 use Rattle.std.specs.List.Sorted.{IsPermutation, IsSorted}
 use Rattle.std.specs.Ordering.{int_cmp, nat_cmp, ordering_then}
 use Rattle.std.specs.declared.cmp.Ordering.{Ordering}
-use Rattle.std.specs.declared.cmp.Ordering.TheVariants.{Less, Equal, Greater}
-use Rattle.std.proofs.lemmas.Map.Lookups.{exact_signed}
 use Rattle.std.proofs.lemmas.List.Elements.{All-get_or}
 use Rattle.std.proofs.lemmas.List.Sorted.{All-permutation}
 use Rattle.aggregates.proofs.CallerLemmas.{order-over}
@@ -20,15 +18,6 @@ whole_cmp x y = ordering_then (int_cmp x.num y.num) (nat_cmp x.node y.node)
 
 pub whole_total : IsTotalOrder whole_cmp
 whole_total = then_total (on_total (λ (k : Key). k.num) int_cmp_total) (on_total (λ (k : Key). k.node) nat_cmp_total)
-
--- of two numbers that differ the order is that of the numbers
-pub told_first : (x y : ℤ) (r : Ordering) → (x ≡ y → ⊥) → int_cmp x y ≡ ordering_then (int_cmp x y) r
-told_first x y r differ = go (int_cmp x y) refl
-  where
-    go : (o : Ordering) → int_cmp x y ≡ o → o ≡ ordering_then o r
-    go Less e = refl
-    go Equal e = absurd (differ (exact_signed x y e))
-    go Greater e = refl
 
 abbrev pub IsWhole : Key → Type 0
 IsWhole k = k.den ≡ 1

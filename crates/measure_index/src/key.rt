@@ -74,20 +74,30 @@ impl Ord for Key {
 
     // Keys with equal divisors are compared by their numbers, without products.
     fn cmp(&self, other: &Key) -> Ordering {
-        if self.den != other.den {
-            return self.compare_products(other);
-        }
-        if self.num == other.num {
-            self.node.cmp(&other.node)
+        if self.den == other.den {
+            self.compare_numbers(other)
         } else {
-            self.num.cmp(&other.num)
+            self.compare_products(other)
         }
     }
 }
 
 impl Key {
     ghost use Rattle.std.specs.Prelude.{◌≡◌};
+    ghost use Rattle.std.specs.Ordering.{int_cmp, nat_cmp, ordering_then};
     ghost use Rattle.measure_index.specs.ColumnKeys.{key_cmp};
+
+    /// The same as `cmp` for keys with equal divisors.
+    pub(crate) fn compare_numbers(&self, other: &Key) -> Ordering
+        ensures { result ≡ ordering_then (int_cmp self.now.num other.now.num)
+            (nat_cmp self.now.node other.now.node) }
+    {
+        if self.num == other.num {
+            self.node.cmp(&other.node)
+        } else {
+            self.num.cmp(&other.num)
+        }
+    }
 
     /// The same as `cmp`. The products are always computed. A test for equal divisors would be a
     /// branch that a sort of means mispredicts.

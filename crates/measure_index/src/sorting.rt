@@ -21,7 +21,7 @@ pub(crate) fn sort_keys(keys: &mut Vec<Key>)
     ensures len { vec_len keys.new ≡ vec_len keys.old }
 {
     if are_whole(keys) {
-        keys.sort_unstable_by(|a, b| a.num.cmp(&b.num).then(a.node.cmp(&b.node)));
+        keys.sort_unstable_by(|a, b| a.compare_numbers(b));
     } else {
         keys.sort_unstable_by(|a, b| a.compare_products(b));
     }
