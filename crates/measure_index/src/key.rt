@@ -1,5 +1,6 @@
 // The keys by which an index is sorted.
 ghost use Rattle.std.specs.Prelude.{nat_abs, pos, ◌*ℤ◌, ◌*◌, ◌<◌, ◌^◌, ◌≡◌};
+ghost use Rattle.std.specs.Ordering.{int_cmp, nat_cmp, ordering_then};
 ghost use Rattle.aggregates.specs.Quotients.{IsDivisor};
 
 use std::cmp::Ordering;
@@ -21,6 +22,17 @@ fn times(num: i128, den: u64) -> i128
     ensures { result ≡ num *ℤ pos den }
 {
     num * i128::from(den)
+}
+
+// The order of two values, and of their nodes where the values are equal.
+fn order_of(value: i128, other_value: i128, node: u32, other_node: u32) -> Ordering
+    ensures { result ≡ ordering_then (int_cmp value other_value) (nat_cmp node other_node) }
+{
+    if value == other_value {
+        node.cmp(&other_node)
+    } else {
+        value.cmp(&other_value)
+    }
 }
 
 impl PartialEq for Key {
@@ -87,7 +99,8 @@ impl Key {
     ghost use Rattle.std.specs.Ordering.{int_cmp, nat_cmp, ordering_then};
     ghost use Rattle.measure_index.specs.ColumnKeys.{key_cmp};
 
-    /// The same as `cmp` for keys with equal divisors.
+    /// The same as `cmp` for keys with equal divisors. Most numbers differ, so a sort seldom reads
+    /// the nodes.
     pub(crate) fn compare_numbers(&self, other: &Key) -> Ordering
         ensures { result ≡ ordering_then (int_cmp self.now.num other.now.num)
             (nat_cmp self.now.node other.now.node) }
@@ -106,6 +119,6 @@ impl Key {
     {
         let value = times(i128::from(self.num), u64::from(other.den));
         let other_value = times(i128::from(other.num), u64::from(self.den));
-        value.cmp(&other_value).then(self.node.cmp(&other.node))
+        order_of(value, other_value, self.node, other.node)
     }
 }
