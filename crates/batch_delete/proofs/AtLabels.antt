@@ -27,7 +27,7 @@ pub record AtLabels (dims : ℕ) (nodes : Tree ℕ) (d : Deletion) (t u : Cell �
   pub front : cell_at nodes number ≡ Some (cell_prefix i u)
 
 pub at_labels : (d : Deletion) (class : Class) (i number : ℕ) → IsPrefixNode d class i number
-    → AtLabels class.row.now.arena.now.width class.row.now.arena.now.now d class.row.now.tuple.now class.cell i number
+    → AtLabels class.row.now.arena.now.width class.row.now.arena.now.now d class.row.now.tuple.now class.cell.now i number
 at_labels d class i number at
     = record {
       tree = at.known.gone.tree;

@@ -206,3 +206,11 @@ own_prefix d c shared front closes is low =
     (cell_prefix_mono law (depth c) c shared (leq-closure law (rows_after d) c shared closes)) in
     let down : leq (eq_by_cmp nat_cmp) front c ≡ true = subst (λ eq. leq eq front c ≡ true) (sym one_test) low in
     leq_antisymm law (cell_prefix (depth c) shared) c (subst (λ x. leq (eq_by_cmp nat_cmp) x c ≡ true) is down) up
+
+-- so is the prefix of what the rows share, where they share no more than the cell
+pub whole_prefix : (d : Deletion) (c shared : Cell ℕ) → closure (eq_by_cmp nat_cmp) (rows_after d) c ≡ Some shared
+    → leq nat_eq shared c ≡ true → cell_prefix (depth c) shared ≡ c
+whole_prefix d c shared closes low =
+    let down : leq (eq_by_cmp nat_cmp) shared c ≡ true = subst (λ eq. leq eq shared c ≡ true) (sym one_test) low in
+    ap (cell_prefix (depth c)) (leq_antisymm law shared c down (leq-closure law (rows_after d) c shared closes))
+    ∙ cell_prefix-beyond (depth c) c (omega arith)

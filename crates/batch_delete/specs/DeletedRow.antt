@@ -60,21 +60,19 @@ pub record IsClassOfRow (d : Deletion) (row : DeletedRow) (b : NodeCell) : Type 
   pub gone : IsDeletedRow d row
   pub class : IsClassNode d row.arena.now b
 
--- what is known of such a class: the row, and what the class's rows come to before, and perhaps afterwards
+-- what is known of such a class: the row, and what the class's rows come to before
 pub record IsKnown (d : Deletion) (class : Class) : Type 0 where
   pub gone : IsDeletedRow d class.row.now
-  pub is : IsClass d class.cell
-  pub long : length class.cell ≡ class.row.now.arena.now.width
-  pub whole : option_map agg_in class.whole ≡ agg_at (eq_by_cmp nat_cmp) d.measures (rows_before d) class.cell
-  pub less : IfSome class.less
-      (λ agg. Some (agg_in agg) ≡ agg_at (eq_by_cmp nat_cmp) d.measures (rows_after d) class.cell)
+  pub is : IsClass d class.cell.now
+  pub long : length class.cell.now ≡ class.row.now.arena.now.width
+  pub whole : option_map agg_in class.whole ≡ agg_at (eq_by_cmp nat_cmp) d.measures (rows_before d) class.cell.now
 
 -- the number is that of such a class's prefix before a dimension in which the class has Any
 pub record IsPrefixNode (d : Deletion) (class : Class) (i number : ℕ) : Type 0 where
   pub known : IsKnown d class
-  pub any : slice_get class.cell i ≡ Some None
-  pub dim : i < length class.cell
-  pub front : cell_at class.row.now.arena.now.now number ≡ Some (cell_prefix i class.cell)
+  pub any : slice_get class.cell.now i ≡ Some None
+  pub dim : i < length class.cell.now
+  pub front : cell_at class.row.now.arena.now.now number ≡ Some (cell_prefix i class.cell.now)
 
 -- the part of a cell by the tuple's value in dimension i is planned for
 abbrev pub IsPartPlanned : Deletion → DeletedRow → List (ℕ × NodePlan) → Cell ℕ → ℕ → Type 0
@@ -85,7 +83,7 @@ IsPartPlanned d row plan u i = (v q : ℕ) (w : Cell ℕ) → slice_index_or row
 -- such a prefix's number, where the class's part by the tuple's value is planned for
 pub record HasOwnPart (d : Deletion) (class : Class) (plan : List (ℕ × NodePlan)) (i number : ℕ) : Type 0 where
   pub front : IsPrefixNode d class i number
-  pub planned : IsPartPlanned d class.row.now plan class.cell i
+  pub planned : IsPartPlanned d class.row.now plan class.cell.now i
 
 -- such a class whose part by the tuple's value in its last dimension of Any is planned for
 pub record IsLastPartPlanned (d : Deletion) (row : DeletedRow) (plan : List (ℕ × NodePlan)) (b : NodeCell)
@@ -140,7 +138,7 @@ pub record MaySettle (d : Deletion) (u : Cell ℕ) (rest : Rest) : Type 0 where
 -- what is known of such a class, and of some of its rows that stay, if there are any
 pub record CanSettle (d : Deletion) (class : Class) (some : Option Rest) : Type 0 where
   pub known : IsKnown d class
-  pub rest : IfSome some (λ rest. MaySettle d class.cell rest)
+  pub rest : IfSome some (λ rest. MaySettle d class.cell.now rest)
 
 -- the row that goes, with the nodes that generalize its tuple
 pub record HasGeneralizing (d : Deletion) (row : DeletedRow) (list : List NodeCell) : Type 0 where

@@ -4,7 +4,6 @@ ghost use Rattle.batch_delete.specs.DeletedRow.{IsClassOfRow, IsKnown};
 ghost use Rattle.batch_delete.specs.Rests.{Deletion};
 
 use crate::generalizing::NodeCell;
-use crate::subtracting::agg_without_row;
 use aggregates::Agg;
 use cell_core::{Cell, Steps};
 use qc_arena::{Nodes, QcArena};
@@ -20,35 +19,30 @@ pub(crate) struct DeletedRow<'a> {
     pub duplicates: Option<Agg>,
 }
 
-/// A class of the deleted row: its cell and its aggregate. `less` is the aggregate without the row,
-/// if it follows without a look at each row.
+/// A class of the deleted row: its cell and its aggregate.
 #[derive(Drop)]
 pub(crate) struct Class<'a> {
     pub row: &'a DeletedRow<'a>,
-    pub cell: Cell,
+    pub cell: &'a Cell,
     pub whole: Option<Agg>,
-    pub less: Option<Agg>,
 }
 
 /// The class of a node.
 pub(crate) fn class_at_node<'a, L: Ledger>(
     row: &'a DeletedRow<'a>,
-    below: &NodeCell,
+    below: &'a NodeCell,
     steps: &mut Steps<L>,
 ) -> Class<'a>
     ghost d: { Deletion }
     requires { IsClassOfRow d row.now below.now }
     ensures class { IsKnown d result }
     ensures row { result.row.now ≡ row.now }
-    ensures cell { result.cell ≡ below.now.cell }
+    ensures cell { result.cell.now ≡ below.now.cell }
     ensures steps { steps.new ≤ steps.old + 1 }
 {
-    let whole = row.arena.class(below.node, steps);
-    let less = agg_without_row(row, &below.cell, whole);
     Class {
         row,
-        cell: below.cell.copy(),
-        whole,
-        less,
+        cell: &below.cell,
+        whole: row.arena.class(below.node, steps),
     }
 }

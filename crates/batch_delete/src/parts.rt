@@ -1,5 +1,6 @@
 // The closure and the aggregate of a class after the deletion.
 ghost use Rattle.std.specs.Prelude.{IfSome, IsSome, List, None, Some, [], false, length, nat_eq, slice_get, slice_index_or, ℕ, ◌*◌, ◌+◌, ◌++◌, ◌∷◌, ◌<◌, ◌≡◌, ◌≤◌};
+ghost use Rattle.std.specs.Option.{option_copied};
 ghost use Rattle.std.specs.Ordering.{eq_by_cmp, nat_cmp};
 ghost use Rattle.cube_defs.specs.Cell.{cell_prefix, with_value};
 ghost use Rattle.cube_laws.specs.Parts.{IsLastAny};
@@ -19,14 +20,14 @@ use crate::deleted_row::{Class, DeletedRow, class_at_node};
 use crate::generalizing::NodeCell;
 use crate::labels::first_label;
 use crate::partial_search::{find_from, prefix_node};
-use crate::plan::{NodePlan, planned_rest};
+use crate::plan::{NodePlan, copied, planned_rest};
 use crate::stays::settled;
+use crate::subtracting::combined;
 use aggregates::Agg;
 use cell_core::{Cell, Code, Entry, NodeNo, Steps, meet_into};
 use cube_defs::MAX_ROWS;
 use indexmap::IndexMap;
 use qc_arena::{Nodes, QcArena};
-use std::mem::replace;
 use std::sync::ledger::Ledger;
 use tree_search::upper_into;
 
@@ -48,21 +49,22 @@ impl Rest {
     }
 }
 
-// The rest of two groups of rows, of which the first may be empty.
-fn joined(rest: Option<Rest>, part: Rest) -> Rest
-    requires { IfSome rest (λ some. CanJoin some part) }
-    ensures cells { Some result.shared ≡ join_cells nat_eq (shared_of rest) (Some part.shared) }
-    ensures aggs { Some (agg_in result.agg) ≡ join_aggs (agg_of_rest rest)
+// Joins the rest of a group of rows to that of others, which may be none.
+fn join(rest: &mut Option<Rest>, part: Rest)
+    requires { IfSome rest.old (λ some. CanJoin some part) }
+    ensures cells { shared_of rest.new ≡ join_cells nat_eq (shared_of rest.old)
+        (Some part.shared) }
+    ensures aggs { agg_of_rest rest.new ≡ join_aggs (agg_of_rest rest.old)
         (Some (agg_in part.agg)) }
-    ensures parts { length (agg_in result.agg).parts ≡ length (agg_in part.agg).parts }
-    ensures long { length result.shared ≡ length part.shared }
+    ensures parts { IfSome rest.new
+        (λ some. length (agg_in some.agg).parts ≡ length (agg_in part.agg).parts) }
+    ensures long { IfSome rest.new (λ some. length some.shared ≡ length part.shared) }
 {
     match rest {
-        None => part,
-        Some(mut rest) => {
-            meet_into(&mut rest.shared, &part.shared);
-            rest.agg.combine(&part.agg);
-            rest
+        None => *rest = Some(part),
+        Some(some) => {
+            meet_into(&mut some.shared, &part.shared);
+            some.agg = combined(some.agg, part.agg);
         }
     }
 }
@@ -91,18 +93,18 @@ fn rest_at<L: Ledger>(
 
 // The rest of those rows of a class that have the tuple's value in a dimension of Any. `front` is
 // the node of the class's prefix before that dimension.
-fn own_part<L: Ledger>(
+fn own_part<'a, L: Ledger>(
     class: &Class<'_>,
-    plan: &IndexMap<u32, NodePlan>,
+    plan: &'a IndexMap<u32, NodePlan>,
     dim: u8,
     front: NodeNo,
     steps: &mut Steps<L>,
-) -> Option<Rest>
+) -> Option<&'a Rest>
     ghost d: { Deletion }
     requires { HasOwnPart d class.now plan.now.entries dim front.0 }
     ensures rest { (v : ℕ) → slice_index_or class.now.row.now.tuple.now dim None ≡ Some v
-        → IsRest d.measures (rows_after d) (with_value class.now.cell dim v) result }
-    ensures steps { steps.new ≤ steps.old + (2 * length class.now.cell + 1) }
+        → IsRest d.measures (rows_after d) (with_value class.now.cell.now dim v) (option_copied result) }
+    ensures steps { steps.new ≤ steps.old + (2 * length class.now.cell.now + 1) }
 {
     let arena = class.row.arena;
     let Entry::Is(code) = class.row.tuple.get(dim) else {
@@ -111,7 +113,7 @@ fn own_part<L: Ledger>(
     let Some(target) = arena.edge(front, dim, code, steps) else {
         return None;
     };
-    let Some(node) = find_from(arena, &class.cell, (dim, code, target), steps) else {
+    let Some(node) = find_from(arena, class.cell, (dim, code, target), steps) else {
         return None;
     };
     planned_rest(plan, node)
@@ -148,8 +150,7 @@ fn with_part<L: Ledger>(
     match rest_at(arena, &more, node, steps) {
         None => false,
         Some(part) => {
-            let had = replace(rest, None);
-            *rest = Some(joined(had, part));
+            join(rest, part);
             true
         }
     }
@@ -165,18 +166,18 @@ fn with_label<L: Ledger>(
 ) -> bool
     ghost d: { Deletion }
     requires class { IsKnown d class.now }
-    requires label { IsPartLabel d class.now.row.now.arena.now class.now.cell label.0 label.1
+    requires label { IsPartLabel d class.now.row.now.arena.now class.now.cell.now label.0 label.1
         label.2.0 }
     requires few { is_value (slice_index_or class.now.row.now.tuple.now label.0 None) label.1
         ≡ false → (part : _) →
-        IsRest d.measures (rows_before d) (with_value class.now.cell label.0 label.1) (Some part)
+        IsRest d.measures (rows_before d) (with_value class.now.cell.now label.0 label.1) (Some part)
         → IfSome rest.old (λ some. some.agg.count + part.agg.count ≤ MAX_ROWS) }
-    requires rest { ArePartOf d class.now.cell rest.old }
-    ensures rest { ArePartOf d class.now.cell rest.new }
+    requires rest { ArePartOf d class.now.cell.now rest.old }
+    ensures rest { ArePartOf d class.now.cell.now rest.new }
     ensures total { (v : ℕ) (w : _) (vs : List ℕ)
         → slice_index_or class.now.row.now.tuple.now label.0 None ≡ Some v
-        → IsTotal d class.now.cell label.0 v w vs rest.old →
-        IsTotal d class.now.cell label.0 v w
+        → IsTotal d class.now.cell.now label.0 v w vs rest.old →
+        IsTotal d class.now.cell.now label.0 v w
         (vs ++ other_values label.0 v (record {
           dim = label.0;
           value = label.1;
@@ -185,7 +186,7 @@ fn with_label<L: Ledger>(
         } ∷ [])) rest.new }
     ensures same { result ≡ false → rest.new ≡ rest.old }
     ensures steps { (v : ℕ) → slice_index_or class.now.row.now.tuple.now label.0 None ≡ Some v →
-        steps.new ≤ steps.old + (4 * length class.now.cell + 5) * length
+        steps.new ≤ steps.old + (4 * length class.now.cell.now + 5) * length
         (other_values label.0 v (record {
           dim = label.0;
           value = label.1;
@@ -196,7 +197,7 @@ fn with_label<L: Ledger>(
     if has(class.row.tuple, label.0, label.1) {
         return false;
     }
-    with_part(class.row.arena, &class.cell, label, rest, steps)
+    with_part(class.row.arena, class.cell, label, rest, steps)
 }
 
 // The rest of a class, if some of its rows settle it. The same rows aren't asked twice.
@@ -204,9 +205,13 @@ fn settled_by_more(class: &Class<'_>, some: &Option<Rest>, are_more: bool) -> Op
     ghost d: { Deletion }
     requires { CanSettle d class.now some.now }
     ensures rest { IfSome result
-        (λ rest. IsRest d.measures (rows_after d) class.now.cell (Some rest)) }
+        (λ rest. IsRest d.measures (rows_after d) class.now.cell.now (Some rest)) }
 {
-    if are_more { settled(class, some) } else { None }
+    if are_more {
+        settled(class, some.as_ref())
+    } else {
+        None
+    }
 }
 
 // The rest of a class. It begins with the rows that have the tuple's value in the dimension. Then
@@ -215,23 +220,28 @@ fn with_labels<L: Ledger>(
     class: &Class<'_>,
     dim: u8,
     front: NodeNo,
-    rest: Option<Rest>,
+    own: Option<&Rest>,
     steps: &mut Steps<L>,
 ) -> Option<Rest>
     ghost d: { Deletion }
     requires front { IsPrefixNode d class.now dim front.0 }
     requires rest { (v : ℕ) → slice_index_or class.now.row.now.tuple.now dim None ≡ Some v
-        → IsRest d.measures (rows_after d) (with_value class.now.cell dim v) rest }
-    ensures rest { IsRest d.measures (rows_after d) class.now.cell result }
-    ensures steps { steps.new + (4 * length class.now.cell + 5)
-        ≤ steps.old + (3 + (4 * length class.now.cell + 7) * length
+        → IsRest d.measures (rows_after d) (with_value class.now.cell.now dim v) (option_copied own) }
+    ensures rest { IsRest d.measures (rows_after d) class.now.cell.now result }
+    ensures steps { steps.new + (4 * length class.now.cell.now + 5)
+        ≤ steps.old + (3 + (4 * length class.now.cell.now + 7) * length
         (record_at class.now.row.now.arena.now.now front.0).edges) }
 {
-    let mut all = rest;
-    let mut are_more = true;
     let arena = class.row.arena;
+    let end = arena.edge_count(front, steps);
+    match settled(class, own) {
+        Some(done) => return Some(done),
+        None => {}
+    }
+    let mut all = copied(own);
+    let mut are_more = false;
     let first = first_label(arena, front, dim, steps);
-    'labels: for k in first..arena.edge_count(front, steps) {
+    'labels: for k in first..end {
         let label = arena.edge_at(front, k, steps);
         if label.0 != dim {
             return all;

@@ -1,6 +1,6 @@
 // The plan for each node that generalizes the tuple, read from the tree before anything changes.
 ghost use Rattle.std.specs.Prelude.{IfOk, List, OnOk, Some, length, nat_eq, true, ℕ, ◌*◌, ◌+◌, ◌≡◌, ◌≢◌, ◌≤◌};
-ghost use Rattle.std.specs.Option.{option_map};
+ghost use Rattle.std.specs.Option.{option_copied, option_map};
 ghost use Rattle.std.specs.Ordering.{eq_by_cmp, nat_cmp};
 ghost use Rattle.aggregates.specs.Views.{agg_in};
 ghost use Rattle.cube_defs.specs.Cell as cells;
@@ -57,18 +57,18 @@ pub(crate) fn node_at<L: Ledger>(arena: &QcArena, cell: &Cell, steps: &mut Steps
 }
 
 /// The planned rest of a node's rows.
-pub(crate) fn planned_rest(plan: &IndexMap<u32, NodePlan>, node: NodeNo) -> Option<Rest>
-    ensures { result ≡ planned_rest_in plan.now.entries node.0 }
+pub(crate) fn planned_rest(plan: &IndexMap<u32, NodePlan>, node: NodeNo) -> Option<&Rest>
+    ensures { option_copied result ≡ planned_rest_in plan.now.entries node.0 }
 {
     match plan.get(&node.0) {
         None => None,
-        Some(fate) => copied(&fate.after),
+        Some(fate) => fate.after.as_ref(),
     }
 }
 
-// A copy of a rest.
-fn copied(rest: &Option<Rest>) -> Option<Rest>
-    ensures { result ≡ rest.now }
+/// A copy of a rest.
+pub(crate) fn copied(rest: Option<&Rest>) -> Option<Rest>
+    ensures { result ≡ option_copied rest.entry }
 {
     match rest {
         None => None,
@@ -105,7 +105,7 @@ fn rest_of<L: Ledger>(
         (last_any_of below.now.cell)) }
 {
     match row.arena.forced(below.node, steps) {
-        Some(forced) => planned_rest(plan, forced.child),
+        Some(forced) => copied(planned_rest(plan, forced.child)),
         None => class_after(row, plan, below, steps),
     }
 }
@@ -128,6 +128,9 @@ fn heir_at<L: Ledger>(
     match after {
         None => None,
         Some(rest) => {
+            if leq(&rest.shared, &below.cell) {
+                return Some(below.node);
+            }
             let front = front(&rest.shared, depth(&below.cell));
             if leq(&front, &below.cell) {
                 return Some(below.node);

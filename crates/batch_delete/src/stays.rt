@@ -1,11 +1,13 @@
 // Whether a class stays when the row is deleted.
 ghost use Rattle.std.specs.Prelude.{IfSome, None, Some, false, length, slice_get, true, ℕ, ◌+◌, ◌<◌, ◌≡◌};
+ghost use Rattle.std.specs.Option.{option_copied};
 ghost use Rattle.batch_delete.specs.DeletedRow.{CanSettle};
 ghost use Rattle.batch_delete.specs.Rests.{Deletion, IsRest, rows_after};
 
 use crate::cells::has;
 use crate::deleted_row::Class;
 use crate::parts::Rest;
+use crate::subtracting::agg_without_row;
 use aggregates::Agg;
 use cell_core::{Cell, Entry};
 
@@ -52,8 +54,8 @@ fn is_settled(shared: &Shared<'_>) -> bool
 }
 
 // Whether these are all rows of the class but one.
-fn are_all_but_one(some: &Rest, whole: Option<Agg>) -> bool
-    ensures { result ≡ true → (agg : Agg) × (whole ≡ Some agg)
+fn are_all_but_one(some: &Rest, whole: &Option<Agg>) -> bool
+    ensures { result ≡ true → (agg : Agg) × (whole.now ≡ Some agg)
         × (some.now.agg.count + 1 ≡ agg.count) }
 {
     match whole {
@@ -64,35 +66,32 @@ fn are_all_but_one(some: &Rest, whole: Option<Agg>) -> bool
 
 /// The rest of a class, if some of its rows settle it. They do if they are all rows but the deleted
 /// one. They also do if they show that the class stays, and its aggregate without the row is known.
-pub(crate) fn settled(class: &Class<'_>, some: &Option<Rest>) -> Option<Rest>
+pub(crate) fn settled(class: &Class<'_>, some: Option<&Rest>) -> Option<Rest>
     ghost d: { Deletion }
-    requires { CanSettle d class.now some.now }
+    requires { CanSettle d class.now (option_copied some) }
     ensures rest { IfSome result
-        (λ rest. IsRest d.measures (rows_after d) class.now.cell (Some rest)) }
+        (λ rest. IsRest d.measures (rows_after d) class.now.cell.now (Some rest)) }
 {
     match some {
         None => None,
         Some(rest) => {
-            if are_all_but_one(rest, class.whole) {
+            if are_all_but_one(rest, &class.whole) {
                 return Some(rest.copy());
             }
-            match class.less {
+            let shared = Shared {
+                tuple: class.row.tuple,
+                cell: class.cell,
+                values: &rest.shared,
+            };
+            if !is_settled(&shared) {
+                return None;
+            }
+            match agg_without_row(class.row, class.cell, &class.whole) {
                 None => None,
-                Some(agg) => {
-                    let shared = Shared {
-                        tuple: class.row.tuple,
-                        cell: &class.cell,
-                        values: &rest.shared,
-                    };
-                    if is_settled(&shared) {
-                        Some(Rest {
-                            shared: class.cell.copy(),
-                            agg,
-                        })
-                    } else {
-                        None
-                    }
-                }
+                Some(agg) => Some(Rest {
+                    shared: class.cell.copy(),
+                    agg,
+                }),
             }
         }
     }

@@ -68,41 +68,49 @@ pub(crate) fn without_part(whole: &Agg, part: &Agg) -> Option<Agg>
     })
 }
 
-// The aggregate of both groups of rows.
-fn with_twins(duplicates: Option<Agg>, others: Agg) -> Agg
-    requires parts { IfSome duplicates
+/// The aggregate of both groups of rows.
+pub(crate) fn combined(mut some: Agg, others: Agg) -> Agg
+    requires parts { length (agg_in others).parts ≡ length (agg_in some).parts }
+    requires few { some.count + others.count ≤ MAX_ROWS }
+    ensures agg { agg_in result ≡ combine (agg_in some) (agg_in others) }
+    ensures parts { length (agg_in result).parts ≡ length (agg_in others).parts }
+{
+    some.combine(&others);
+    some
+}
+
+// The aggregate of both groups of rows, of which the first may be empty.
+fn with_twins(duplicates: &Option<Agg>, others: Agg) -> Agg
+    requires parts { IfSome duplicates.now
         (λ agg. length (agg_in others).parts ≡ length (agg_in agg).parts) }
-    requires few { IfSome duplicates (λ agg. agg.count + others.count ≤ MAX_ROWS) }
-    ensures { Some (agg_in result) ≡ join_aggs (option_map agg_in duplicates)
+    requires few { IfSome duplicates.now (λ agg. agg.count + others.count ≤ MAX_ROWS) }
+    ensures { Some (agg_in result) ≡ join_aggs (option_map agg_in duplicates.now)
         (Some (agg_in others)) }
 {
     match duplicates {
         None => others,
-        Some(mut agg) => {
-            agg.combine(&others);
-            agg
-        }
+        Some(twins) => combined(*twins, others),
     }
 }
 
 /// The aggregate of a class without the row. None if a row with its tuple has the MIN or the MAX of
 /// any measure.
-pub(crate) fn agg_without_row(row: &DeletedRow<'_>, cell: &Cell, whole: Option<Agg>) -> Option<Agg>
+pub(crate) fn agg_without_row(row: &DeletedRow<'_>, cell: &Cell, whole: &Option<Agg>) -> Option<Agg>
     ghost d: { Deletion }
     requires row { IsDeletedRow d row.now }
     requires below { defs.covers (eq_by_cmp nat_cmp) cell.now d.r ≡ true }
-    requires whole { option_map agg_in whole ≡ agg_at (eq_by_cmp nat_cmp) d.measures
+    requires whole { option_map agg_in whole.now ≡ agg_at (eq_by_cmp nat_cmp) d.measures
         (rows_before d) cell.now }
     ensures agg { IfSome result (λ agg. Some (agg_in agg) ≡ agg_at (eq_by_cmp nat_cmp) d.measures
         (rows_after d) cell.now) }
 {
     match whole {
         None => None,
-        Some(whole) => match row.all {
+        Some(whole) => match &row.all {
             None => None,
-            Some(gone) => match without_part(&whole, &gone) {
+            Some(gone) => match without_part(whole, gone) {
                 None => None,
-                Some(others) => Some(with_twins(row.duplicates, others)),
+                Some(others) => Some(with_twins(&row.duplicates, others)),
             },
         },
     }

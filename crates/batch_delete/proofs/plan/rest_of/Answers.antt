@@ -42,7 +42,7 @@ returns-in-Some-clause-rest g c =
     let a = c.args.row.now.arena.now in
     let k = c.args.below.now.node.0 in
     let p = c.args.below.now.cell in
-    subst (IsRest g.d.measures (rows_after g.d) p) (sym c.planned_rest.ensures)
+    subst (IsRest g.d.measures (rows_after g.d) p) (sym (c.copied.ensures ∙ c.planned_rest.ensures))
     (forced_rest a.width a.now g.d c.requires.1.gone.tree k p c.requires.1.cell c.args.row.now.tuple.now
     c.requires.1.gone.tuple c.requires.1.low (planned_rest_in c.args.plan.now.entries) c.requires.1.planned
     (edge_of c.in-Some.forced) (sym c.forced.ensures.value ∙ ap (option_map edge_of) c.in-Some.is))

@@ -1,5 +1,5 @@
 use Rattle.std.proofs.Common.{◌≡◌, ◌∙◌, ℕ, Some, ap, arith, length, nat_cmp, slice_get, subst, sym}
-use Rattle.std.specs.Option.{option_map}
+use Rattle.std.specs.Option.{option_copied, option_map}
 use Rattle.std.specs.Ordering.{eq_by_cmp}
 use Rattle.aggregates.specs.Views.{agg_in}
 use Rattle.cube_defs.specs.Cell.{Cell}
@@ -14,23 +14,25 @@ use Rattle.batch_delete.proofs.Labelled.{law}
 use Rattle.batch_delete.proofs.Settled.{class_stays}
 use Rattle.batch_delete.proofs.stays.settled.Goals as goal
 
-pub returns-then-is_settled : goal.returns-then-is_settled
-returns-then-is_settled g c =
+pub returns-in-Some-agg_without_row : goal.returns-in-Some-agg_without_row
+returns-in-Some-agg_without_row g c =
     let a = c.args.class.now.row.now.arena.now in
-    let u = c.args.class.now.cell in
-    let above = (some_of (λ (rest : Rest). MaySettle g.d u rest) c.args.some.now c.in-Some.rest c.in-Some.is
+    let u = c.args.class.now.cell.now in
+    let above = (some_of (λ (rest : Rest). MaySettle g.d u rest) (option_copied c.args.some) c.in-Some.rest.now
+    (ap option_copied c.in-Some.is)
     c.requires.rest).above in
-    let agg = some_of _ c.args.class.now.less c.in-Some-less.agg c.in-Some-less.is c.requires.known.less in
-    let stays = class_stays a.width a.now g.d c.requires.known.gone.tree u c.in-Some.rest.shared c.requires.known.long
+    let agg = c.in-Some-agg_without_row.ensures.agg in
+    let stays = class_stays a.width a.now g.d c.requires.known.gone.tree u c.in-Some.rest.now.shared c.requires.known.long
     c.requires.known.is.below c.requires.known.is.own above (λ k v any has.
     (slice_get-cell_of g.d.r.tuple k v).0 (ap (λ (c : Cell ℕ). slice_get c k) (sym c.requires.known.gone.tuple)
-    ∙ c.is_settled.ensures c.if-is_settled.true k v any has)) in
-    record { rest = record { cells = ap (λ c. Some c) c.copy-then-is_settled.ensures.value ∙ sym stays; aggs = agg } }
+    ∙ c.is_settled.ensures c.if-not-is_settled.false k v any has)) in
+    record { rest = record { cells = ap (λ c. Some c) c.copy-in-Some-agg_without_row.ensures.value ∙ sym stays; aggs = agg } }
 
 pub returns-then-are_all_but_one : goal.returns-then-are_all_but_one
 returns-then-are_all_but_one g c =
-    let u = c.args.class.now.cell in
-    let all = (some_of (λ (rest : Rest). MaySettle g.d u rest) c.args.some.now c.in-Some.rest c.in-Some.is
+    let u = c.args.class.now.cell.now in
+    let all = (some_of (λ (rest : Rest). MaySettle g.d u rest) (option_copied c.args.some) c.in-Some.rest.now
+    (ap option_copied c.in-Some.is)
     c.requires.rest).all in
     let found = c.are_all_but_one.ensures c.if-are_all_but_one.true in
     let whole : Some (agg_in found.0) ≡ agg_at (eq_by_cmp nat_cmp) g.d.measures (rows_before g.d) u
