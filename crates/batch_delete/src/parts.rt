@@ -103,7 +103,8 @@ fn own_part<'a, L: Ledger>(
     ghost d: { Deletion }
     requires { HasOwnPart d class.now plan.now.entries dim front.0 }
     ensures rest { (v : ℕ) → slice_index_or class.now.row.now.tuple.now dim None ≡ Some v
-        → IsRest d.measures (rows_after d) (with_value class.now.cell.now dim v) (option_copied result) }
+        → IsRest d.measures (rows_after d) (with_value class.now.cell.now dim v)
+        (option_copied result) }
     ensures steps { steps.new ≤ steps.old + (2 * length class.now.cell.now + 1) }
 {
     let arena = class.row.arena;
@@ -170,8 +171,8 @@ fn with_label<L: Ledger>(
         label.2.0 }
     requires few { is_value (slice_index_or class.now.row.now.tuple.now label.0 None) label.1
         ≡ false → (part : _) →
-        IsRest d.measures (rows_before d) (with_value class.now.cell.now label.0 label.1) (Some part)
-        → IfSome rest.old (λ some. some.agg.count + part.agg.count ≤ MAX_ROWS) }
+        IsRest d.measures (rows_before d) (with_value class.now.cell.now label.0 label.1)
+        (Some part) → IfSome rest.old (λ some. some.agg.count + part.agg.count ≤ MAX_ROWS) }
     requires rest { ArePartOf d class.now.cell.now rest.old }
     ensures rest { ArePartOf d class.now.cell.now rest.new }
     ensures total { (v : ℕ) (w : _) (vs : List ℕ)
@@ -226,7 +227,8 @@ fn with_labels<L: Ledger>(
     ghost d: { Deletion }
     requires front { IsPrefixNode d class.now dim front.0 }
     requires rest { (v : ℕ) → slice_index_or class.now.row.now.tuple.now dim None ≡ Some v
-        → IsRest d.measures (rows_after d) (with_value class.now.cell.now dim v) (option_copied own) }
+        → IsRest d.measures (rows_after d) (with_value class.now.cell.now dim v)
+        (option_copied own) }
     ensures rest { IsRest d.measures (rows_after d) class.now.cell.now result }
     ensures steps { steps.new + (4 * length class.now.cell.now + 5)
         ≤ steps.old + (3 + (4 * length class.now.cell.now + 7) * length
