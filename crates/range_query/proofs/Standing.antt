@@ -14,12 +14,13 @@ use Rattle.cube_defs.specs.Tree.{Tree, cell_at}
 use Rattle.cube_defs.specs.Answers.{Box}
 use Rattle.cube_laws.proofs.CallerLemmas.{depth-le, one_deeper-le, closure_length}
 use Rattle.qc_arena.specs.RecordReaders.{record_at}
-use Rattle.tree_laws.specs.Walk.{closure_prefix, walk_on}
+use Rattle.tree_laws.specs.Walk.{closure_prefix, target_at, walk_on}
 use Rattle.tree_laws.proofs.CallerLemmas.{any_after, cell_prefix-beyond, shallower, some_same, there, walk_step}
 use Rattle.tree_search.specs.Found.{IsTreeOf, IsTree, TreeRows, closure_in}
 use Rattle.tree_search.proofs.CallerLemmas.{cell_of, there_is}
 use Rattle.range_query.specs.Met.{is_covered}
 use Rattle.range_query.specs.Walk.{StandsAtNode, cost, entered, entry_cost, met}
+use Rattle.range_query.proofs.Asked.{asked}
 
 -- an entry put in its own place
 pub set-own : {X : Type 0} (xs : List X) (i : ℕ) (x : X) → slice_get xs i ≡ Some x → set xs i x ≡ xs
@@ -53,6 +54,11 @@ module _ {A : Type 0} where
 pub back : {dims : ℕ} {tree : Tree ℕ} {node : ℕ} {p : Cell ℕ} {i : ℕ} (e : Option ℕ) → StandsAtNode dims tree node p i
     → i < dims → set (set p i e) i None ≡ p
 back {p = p} {i = i} e s l = set-set p i e None ∙ set-own p i None (any_after p i s.behind (omega (arith, s.long)))
+
+-- with the entry e in dimension i, the walk goes on at this node, or no row is left
+abbrev pub LeadsTo : ℕ → Tree ℕ → Cell ℕ → ℕ → Option ℕ → Option ℕ → Type 0
+LeadsTo dims tree p i e o = (source : TreeRows) → IsTreeOf dims tree source → option_map (cell_at tree) o
+    ≡ option_map (λ c. Some c) (closure_prefix (eq_by_cmp nat_cmp) source.rows (set p i e) (suc i))
 
 module _ (dims : ℕ) (tree : Tree ℕ) (node : ℕ) (p : Cell ℕ) (i : ℕ) (s : StandsAtNode dims tree node p i) where
   module _ (source : TreeRows) (h : IsTreeOf dims tree source) where
@@ -102,84 +108,97 @@ module _ (dims : ℕ) (tree : Tree ℕ) (node : ℕ) (p : Cell ℕ) (i : ℕ) (s
           (length-set p i e ∙ s.long) (set-get p i e (omega (arith, s.long))) l
           (there_is tree node (there tree node (cell_prefix i u.0) u.2)) at
 
-      pub next_none : walk_on (eq_by_cmp nat_cmp) node (record_at tree node) i e ≡ None
-          → is_covered (eq_by_cmp nat_cmp) source.rows q ≡ false
-      next_none w = go (closure_in source (cell_prefix (suc i) q)) refl
-        where
-          go : (o : Option (Cell ℕ)) → closure_in source (cell_prefix (suc i) q) ≡ o
-              → is_covered (eq_by_cmp nat_cmp) source.rows q ≡ false
-          go None f = ap (λ c. is_some (closure_in source c)) (sym kept) ∙ ap is_some f
-          go (Some u) f = let bad : None ≡ Some (Some (cell_prefix (suc i) u)) = ap (option_map (cell_at tree)) (sym w)
-              ∙ stepped ∙ ap (λ o. option_map (λ c. Some c) (option_map (cell_prefix (suc i)) o)) f in cc
+      edge_led : (v : ℕ) → option_map (cell_at tree) (target_at (eq_by_cmp nat_cmp) i v (record_at tree node).edges)
+          ≡ option_map (cell_at tree) (walk_on (eq_by_cmp nat_cmp) node (record_at tree node) i (Some v))
+      edge_led v =
+          let u : (u : Cell ℕ) × (closure_in source p ≡ Some u) × (cell_at tree node ≡ Some (cell_prefix i u))
+          = stands_closure in
+          asked source.measures source.rows tree h.canonical node (record_at tree node)
+          (there_is tree node (there tree node (cell_prefix i u.0) u.2)) i v
 
-      pub next_some : (j : ℕ) → walk_on (eq_by_cmp nat_cmp) node (record_at tree node) i e ≡ Some j
-          → (cell_at tree j ≡ closure_prefix (eq_by_cmp nat_cmp) source.rows q (suc i)) × IsSome (cell_at tree j)
-          × (is_covered (eq_by_cmp nat_cmp) source.rows q ≡ true)
-      next_some j w = go (closure_in source (cell_prefix (suc i) q)) refl
-        where
-          by : Some (cell_at tree j) ≡ option_map (λ c. Some c)
-              (closure_prefix (eq_by_cmp nat_cmp) source.rows q (suc i))
-          by = ap (option_map (cell_at tree)) (sym w) ∙ stepped
+      module _ (o : Option ℕ) (to : LeadsTo dims tree p i e o) where
+        pub next_none : o ≡ None → is_covered (eq_by_cmp nat_cmp) source.rows q ≡ false
+        next_none w = go (closure_in source (cell_prefix (suc i) q)) refl
+          where
+            go : (o : Option (Cell ℕ)) → closure_in source (cell_prefix (suc i) q) ≡ o
+                → is_covered (eq_by_cmp nat_cmp) source.rows q ≡ false
+            go None f = ap (λ c. is_some (closure_in source c)) (sym kept) ∙ ap is_some f
+            go (Some u) f = let bad : None ≡ Some (Some (cell_prefix (suc i) u)) = ap (option_map (cell_at tree)) (sym w)
+                ∙ to source h ∙ ap (λ o. option_map (λ c. Some c) (option_map (cell_prefix (suc i)) o)) f in cc
 
-          go : (o : Option (Cell ℕ)) → closure_in source (cell_prefix (suc i) q) ≡ o
-              → (cell_at tree j ≡ closure_prefix (eq_by_cmp nat_cmp) source.rows q (suc i)) × IsSome (cell_at tree j)
-              × (is_covered (eq_by_cmp nat_cmp) source.rows q ≡ true)
-          go None f = let bad : Some (cell_at tree j) ≡ None
-              = by ∙ ap (λ o. option_map (λ c. Some c) (option_map (cell_prefix (suc i)) o)) f in cc
-          go (Some u) f =
-              let is : closure_prefix (eq_by_cmp nat_cmp) source.rows q (suc i) ≡ Some (cell_prefix (suc i) u)
-              = ap (option_map (cell_prefix (suc i))) f in
-              let at : cell_at tree j ≡ Some (cell_prefix (suc i) u)
-              = some_same (by ∙ ap (option_map (λ c. Some c)) is) in (
-                at ∙ sym is,
-                subst (λ o. IsSome o) (sym at) refl,
-                ap (λ c. is_some (closure_in source c)) (sym kept)
-                    ∙ ap is_some f,
-              )
+        pub next_some : (j : ℕ) → o ≡ Some j
+            → (cell_at tree j ≡ closure_prefix (eq_by_cmp nat_cmp) source.rows q (suc i)) × IsSome (cell_at tree j)
+            × (is_covered (eq_by_cmp nat_cmp) source.rows q ≡ true)
+        next_some j w = go (closure_in source (cell_prefix (suc i) q)) refl
+          where
+            by : Some (cell_at tree j) ≡ option_map (λ c. Some c)
+                (closure_prefix (eq_by_cmp nat_cmp) source.rows q (suc i))
+            by = ap (option_map (cell_at tree)) (sym w) ∙ to source h
+
+            go : (o : Option (Cell ℕ)) → closure_in source (cell_prefix (suc i) q) ≡ o
+                → (cell_at tree j ≡ closure_prefix (eq_by_cmp nat_cmp) source.rows q (suc i)) × IsSome (cell_at tree j)
+                × (is_covered (eq_by_cmp nat_cmp) source.rows q ≡ true)
+            go None f = let bad : Some (cell_at tree j) ≡ None
+                = by ∙ ap (λ o. option_map (λ c. Some c) (option_map (cell_prefix (suc i)) o)) f in cc
+            go (Some u) f =
+                let is : closure_prefix (eq_by_cmp nat_cmp) source.rows q (suc i) ≡ Some (cell_prefix (suc i) u)
+                = ap (option_map (cell_prefix (suc i))) f in
+                let at : cell_at tree j ≡ Some (cell_prefix (suc i) u)
+                = some_same (by ∙ ap (option_map (λ c. Some c)) is) in (
+                  at ∙ sym is,
+                  subst (λ o. IsSome o) (sym at) refl,
+                  ap (λ c. is_some (closure_in source c)) (sym kept)
+                      ∙ ap is_some f,
+                )
+
+  -- the readers of a node tell where an entry leads
+  pub leads_walk : (e : Option ℕ) → i < dims
+      → LeadsTo dims tree p i e (walk_on (eq_by_cmp nat_cmp) node (record_at tree node) i e)
+  leads_walk e l = λ source h. stepped source h e l
+
+  pub leads_edge : (v : ℕ) → i < dims
+      → LeadsTo dims tree p i (Some v) (target_at (eq_by_cmp nat_cmp) i v (record_at tree node).edges)
+  leads_edge v l = λ source h. edge_led source h (Some v) l v ∙ stepped source h (Some v) l
 
   -- the walk stands at the next node
-  stands_next : (t : IsTree dims tree) (e : Option ℕ) (l : i < dims) (j : ℕ)
-      → walk_on (eq_by_cmp nat_cmp) node (record_at tree node) i e ≡ Some j
-      → StandsAtNode dims tree j (set p i e) (suc i)
-  stands_next t e l j w = record {
+  stands_next : (t : IsTree dims tree) (e : Option ℕ) (l : i < dims) (o : Option ℕ) → LeadsTo dims tree p i e o → (j : ℕ)
+      → o ≡ Some j → StandsAtNode dims tree j (set p i e) (suc i)
+  stands_next t e l o to j w = record {
     long = length-set p i e ∙ s.long;
     within = omega arith;
     behind = depth-set p i e s.behind;
-    there = (next_some t.0 t.1 e l j w).1;
-    front = λ source h. (next_some source h e l j w).0;
+    there = (next_some t.0 t.1 e l o to j w).1;
+    front = λ source h. (next_some source h e l o to j w).0;
   }
 
-  pub stands_after : (t : IsTree dims tree) (e : Option ℕ) (l : i < dims) (j : ℕ) (q : Cell ℕ)
-      → walk_on (eq_by_cmp nat_cmp) node (record_at tree node) i e ≡ Some j → q ≡ set p i e
-      → StandsAtNode dims tree j q (i + 1)
-  stands_after t e l j q w is =
+  pub stands_after : (t : IsTree dims tree) (e : Option ℕ) (l : i < dims) (o : Option ℕ) → LeadsTo dims tree p i e o
+      → (j : ℕ) → o ≡ Some j → StandsAtNode dims tree j (set p i e) (i + 1)
+  stands_after t e l o to j w =
       let next : suc i ≡ i + 1 = omega arith in
-      subst (λ c. StandsAtNode dims tree j c (i + 1)) (sym is)
-      (subst (λ k. StandsAtNode dims tree j (set p i e) k) next (stands_next t e l j w))
+      subst (λ k. StandsAtNode dims tree j (set p i e) k) next (stands_next t e l o to j w)
 
   -- with Any, whether the walk stays or goes to the forced child
   pub stands_any : (t : IsTree dims tree) (l : i < dims) (j : ℕ)
       → walk_on (eq_by_cmp nat_cmp) node (record_at tree node) i None ≡ Some j → StandsAtNode dims tree j p (i + 1)
-  stands_any t l j w = stands_after t None l j p w
-      (sym (set-own p i None (any_after p i s.behind (omega (arith, s.long)))))
+  stands_any t l j w = subst (λ c. StandsAtNode dims tree j c (i + 1))
+      (set-own p i None (any_after p i s.behind (omega (arith, s.long))))
+      (stands_after t None l (walk_on (eq_by_cmp nat_cmp) node (record_at tree node) i None) (leads_walk None l) j w)
 
   module _ (source : TreeRows) (h : IsTreeOf dims tree source) (box : Box ℕ) where
     -- one entry: nothing where no row is left with it, and else what is met from there
-    module _ (e : Option ℕ) (l : i < dims) where
-      pub entered_none : walk_on (eq_by_cmp nat_cmp) node (record_at tree node) i e ≡ None
-          → entered source box p i e ≡ []
-      entered_none w = cond-false _ _ _ (next_none source h e l w)
+    module _ (e : Option ℕ) (l : i < dims) (o : Option ℕ) (to : LeadsTo dims tree p i e o) where
+      pub entered_none : o ≡ None → entered source box p i e ≡ []
+      entered_none w = cond-false _ _ _ (next_none source h e l o to w)
 
-      module _ (j : ℕ) (w : walk_on (eq_by_cmp nat_cmp) node (record_at tree node) i e ≡ Some j) (after : Cell ℕ)
-          (is : after ≡ set p i e) where
-        pub entered_some : entered source box p i e ≡ met source box after (i + 1)
-        entered_some = cond-true _ _ _ (next_some source h e l j w).2 ∙ ap (λ p. met source box p (suc i)) (sym is)
-            ∙ (let next : suc i ≡ i + 1 = omega arith in ap (met source box after) next)
+      module _ (j : ℕ) (w : o ≡ Some j) where
+        pub entered_some : entered source box p i e ≡ met source box (set p i e) (i + 1)
+        entered_some = cond-true _ _ _ (next_some source h e l o to j w).2
+            ∙ (let next : suc i ≡ i + 1 = omega arith in ap (met source box (set p i e)) next)
 
-        pub entry_cost_some : entry_cost source box p i e ≡ 1 + cost source box after (i + 1)
-        entry_cost_some = ap (λ n. 1 + n) (cond-true _ _ _ (next_some source h e l j w).2
-            ∙ ap (λ p. cost source box p (suc i)) (sym is) ∙ (let next : suc i ≡ i + 1 = omega arith in
-            ap (cost source box after) next))
+        pub entry_cost_some : (each : ℕ)
+            → entry_cost each source box p i e ≡ each + cost source box (set p i e) (i + 1)
+        entry_cost_some each = ap (λ n. each + n) (cond-true _ _ _ (next_some source h e l o to j w).2
+            ∙ (let next : suc i ≡ i + 1 = omega arith in ap (cost source box (set p i e)) next))
 
     -- one dimension of a box
     module _ (l : i < length box) where
@@ -187,23 +206,10 @@ module _ (dims : ℕ) (tree : Tree ℕ) (node : ℕ) (p : Cell ℕ) (i : ℕ) (s
       prefix_of = let next : suc i ≡ i + 1 = omega arith in
           drop-cons box i None l ∙ ap (λ n. get_or box i None ∷ drop n box) next
 
-      pub any_met : get_or box i None ≡ None → met source (drop (i + 1) box) p (i + 1) ≡ met source (drop i box) p i
-      any_met is =
-          let next : i + 1 ≡ suc i = omega arith in
-          ap (λ n. met source (drop (i + 1) box) p n) next
-          ∙ sym (ap (λ b. met source b p i) (prefix_of ∙ ap (λ a. a ∷ drop (i + 1) box) is))
-
-      pub any_cost : get_or box i None ≡ None
-          → cost source (drop i box) p i ≡ 1 + cost source (drop (i + 1) box) p (i + 1)
-      any_cost is =
-          let next : suc i ≡ i + 1 = omega arith in
-          ap (λ b. cost source b p i) (prefix_of ∙ ap (λ a. a ∷ drop (i + 1) box) is)
-          ∙ ap (λ n. 1 + cost source (drop (i + 1) box) p n) next
-
       module _ (vs : List ℕ) (is : get_or box i None ≡ Some vs) where
         pub codes_met : met source (drop i box) p i ≡ flat_map (λ v. entered source (drop (i + 1) box) p i (Some v)) vs
         codes_met = ap (λ b. met source b p i) (prefix_of ∙ ap (λ a. a ∷ drop (i + 1) box) is)
 
         pub codes_cost : cost source (drop i box) p i ≡ 1
-            + sum_by (λ v. entry_cost source (drop (i + 1) box) p i (Some v)) vs
+            + sum_by (λ v. entry_cost 1 source (drop (i + 1) box) p i (Some v)) vs
         codes_cost = ap (λ b. cost source b p i) (prefix_of ∙ ap (λ a. a ∷ drop (i + 1) box) is)

@@ -31,5 +31,6 @@ module _ {A : Type 0} (eq : A → A → Bool) (rows : List (Row A)) where
   abbrev pub entered : Box A → Cell A → ℕ → Option A → List (Cell A)
   entered box p i e = if_covered [] (λ q. met box q (suc i)) (slice_set p i e)
 
-  abbrev pub entry_cost : Box A → Cell A → ℕ → Option A → ℕ
-  entry_cost box p i e = 1 + if_covered 0 (λ q. cost box q (suc i)) (slice_set p i e)
+  -- and what it costs, where finding out that no row is left costs so many steps
+  abbrev pub entry_cost : ℕ → Box A → Cell A → ℕ → Option A → ℕ
+  entry_cost each box p i e = each + if_covered 0 (λ q. cost box q (suc i)) (slice_set p i e)

@@ -7,7 +7,7 @@ ghost use Rattle.value_dict.specs.Boxes.{IsOrdered, decoded_box};
 ghost use Rattle.value_dict.specs.Recoded.{has_code};
 ghost use Rattle.range_query.specs.DecodedHits.{IsDecodableHit, hit_in, decoded_hits, decoded_range, decoded_work};
 
-use crate::walk::{Scan, visit};
+use crate::walk::{Position, Scan, visit};
 use crate::{Hit, RangeRefused};
 use cell_core::{Cell, Steps};
 use qc_arena::Nodes;
@@ -60,7 +60,8 @@ pub fn range<T: Nodes, L: Ledger>(
     };
     let mut cell = Cell::any(alloc, dims);
     let scan = Scan { tree, cells, limit };
-    match visit(&scan, root, 0, &mut cell, &mut hits, steps) {
+    let at = Position { node: root, dim: 0 };
+    match visit(&scan, at, &mut cell, &mut hits, steps) {
         Ok(()) => Ok(hits),
         Err(error) => Err(error),
     }

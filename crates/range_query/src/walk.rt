@@ -1,21 +1,23 @@
 // The walk of a tree along a box: from a node on, dimension by dimension, through the entries that
-// the box allows. It goes on only if rows are left, and reads a node's forced child once.
+// the box allows. It goes on only if rows are left. Where the box allows codes, a node with few
+// edges is read edge by edge, and in other nodes each code is searched for.
 ghost use Rattle.std.specs.FinMap as map;
 ghost use Rattle.std.specs.Option.{option_map};
 ghost use Rattle.std.specs.Ordering.{eq_by_cmp, nat_cmp};
-ghost use Rattle.std.specs.Prelude.{All, IfNone, IfSome, None, Some, drop, length, slice_index_or, ℕ, ◌+◌, ◌<◌, ◌≡◌, ◌≤◌};
+ghost use Rattle.std.specs.Prelude.{All, IfNone, IfSome, None, Some, drop, length, slice_index_or, slice_set, take, ℕ, ◌+◌, ◌<◌, ◌≡◌, ◌≤◌};
 ghost use Rattle.cell_core.specs.Entry.{IsCode};
 ghost use Rattle.cube_defs.specs.Tree.{Node};
 ghost use Rattle.qc_arena.specs.RecordReaders.{edge_of, record_at};
 ghost use Rattle.tree_laws.specs.Walk.{by_forced};
+ghost use Rattle.range_query.specs.Children.{AreChildren};
 ghost use Rattle.range_query.specs.Walk.{Finds, GoesOn, cost, entered, entry_cost, met};
 
 use crate::add_hit::add_hit;
+use crate::children::{Children, MAX_PLACES, MAX_READ};
 use crate::{Hit, RangeRefused};
 use cell_core::{Cell, Code, Entry, NodeNo, Steps};
 use qc_arena::{Forced, Nodes};
 use std::sync::ledger::Ledger;
-use tree_search::step_with_forced;
 use value_dict::CellBox;
 
 /// What a walk reads, and how many hits it may have.
@@ -26,12 +28,19 @@ pub(crate) struct Scan<'a, T: Nodes> {
     pub(crate) limit: u32,
 }
 
-/// A position of the walk: the next dimension, and a node whose forced child was read.
+/// A position of the walk: the next dimension, and a node.
 #[derive(Clone, Copy)]
-struct Position {
+pub(crate) struct Position {
+    pub(crate) node: NodeNo,
+    pub(crate) dim: u8,
+}
+
+/// A position before a dimension in which the box allows codes, and these codes.
+#[derive(Clone, Copy)]
+struct Listed<'a> {
     node: NodeNo,
-    forced: Option<Forced>,
     dim: u8,
+    codes: &'a [Code],
 }
 
 // The forced child, if it is in the dimension. Without one, the walk stays at its node for Any.
@@ -52,54 +61,33 @@ fn child_in(forced: Option<Forced>, dim: u8) -> Option<NodeNo>
 #[cycle(walking)]
 pub(crate) fn visit<T: Nodes, L: Ledger>(
     scan: &Scan<T>,
-    node: NodeNo,
-    dim: u8,
-    cell: &mut Cell,
-    hits: &mut Vec<Hit>,
-    steps: &mut Steps<L>,
-) -> Result<(), RangeRefused>
-    requires { GoesOn (T.width scan.now.tree.now) (T.tree scan.now.tree.now) scan.now.cells.now
-        scan.now.limit node.0 cell.old dim hits.old.items }
-    ensures { Finds (T.width scan.now.tree.now) (T.tree scan.now.tree.now) scan.now.limit
-        (λ source. met source (drop dim scan.now.cells.now) cell.old dim)
-        (λ source. cost source (drop dim scan.now.cells.now) cell.old dim)
-        hits.old.items hits.new.items cell.old cell.new steps.old steps.new result }
-{
-    if dim >= scan.cells.dims() {
-        return add_hit(scan.tree, scan.limit, node, cell, hits, steps);
-    }
-    let forced = scan.tree.forced(node, steps);
-    visit_dimension(scan, Position { node, forced, dim }, cell, hits, steps)
-}
-
-// Continues in the box from a dimension.
-#[cycle(walking)]
-fn visit_dimension<T: Nodes, L: Ledger>(
-    scan: &Scan<T>,
     at: Position,
     cell: &mut Cell,
     hits: &mut Vec<Hit>,
     steps: &mut Steps<L>,
 ) -> Result<(), RangeRefused>
-    requires on { GoesOn (T.width scan.now.tree.now) (T.tree scan.now.tree.now) scan.now.cells.now
+    requires { GoesOn (T.width scan.now.tree.now) (T.tree scan.now.tree.now) scan.now.cells.now
         scan.now.limit at.node.0 cell.old at.dim hits.old.items }
-    requires forced { option_map edge_of at.forced
-        ≡ (record_at (T.tree scan.now.tree.now) at.node.0).forced }
     ensures { Finds (T.width scan.now.tree.now) (T.tree scan.now.tree.now) scan.now.limit
         (λ source. met source (drop at.dim scan.now.cells.now) cell.old at.dim)
         (λ source. cost source (drop at.dim scan.now.cells.now) cell.old at.dim)
-        hits.old.items hits.new.items cell.old cell.new steps.old (steps.new + 1) result }
+        hits.old.items hits.new.items cell.old cell.new steps.old steps.new result }
 {
     if at.dim >= scan.cells.dims() {
         return add_hit(scan.tree, scan.limit, at.node, cell, hits, steps);
     }
     if let Some(codes) = scan.cells.codes(at.dim) {
-        return visit_codes(scan, at, codes, cell, hits, steps);
+        let listed = Listed {
+            node: at.node,
+            dim: at.dim,
+            codes,
+        };
+        return visit_codes(scan, listed, cell, hits, steps);
     }
     let dim = at.dim + 1;
-    match child_in(at.forced, at.dim) {
-        Some(child) => visit(scan, child, dim, cell, hits, steps),
-        None => visit_dimension(scan, Position { dim, ..at }, cell, hits, steps),
+    match child_in(scan.tree.forced(at.node, steps), at.dim) {
+        Some(node) => visit(scan, Position { node, dim }, cell, hits, steps),
+        None => visit(scan, Position { dim, ..at }, cell, hits, steps),
     }
 }
 
@@ -107,8 +95,7 @@ fn visit_dimension<T: Nodes, L: Ledger>(
 #[cycle(walking)]
 fn visit_codes<T: Nodes, L: Ledger>(
     scan: &Scan<T>,
-    at: Position,
-    codes: &[Code],
+    at: Listed,
     cell: &mut Cell,
     hits: &mut Vec<Hit>,
     steps: &mut Steps<L>,
@@ -116,17 +103,90 @@ fn visit_codes<T: Nodes, L: Ledger>(
     requires on { GoesOn (T.width scan.now.tree.now) (T.tree scan.now.tree.now) scan.now.cells.now
         scan.now.limit at.node.0 cell.old at.dim hits.old.items }
     requires dim { at.dim < T.width scan.now.tree.now }
-    requires codes { slice_index_or scan.now.cells.now at.dim None ≡ Some codes.now }
-    requires small { All IsCode codes.now }
-    requires forced { option_map edge_of at.forced
-        ≡ (record_at (T.tree scan.now.tree.now) at.node.0).forced }
+    requires codes { slice_index_or scan.now.cells.now at.dim None ≡ Some at.codes.now }
+    requires small { All IsCode at.codes.now }
     ensures { Finds (T.width scan.now.tree.now) (T.tree scan.now.tree.now) scan.now.limit
-        (λ source. met source (drop at.dim scan.now.cells.now) cell.old at.dim)
-        (λ source. cost source (drop at.dim scan.now.cells.now) cell.old at.dim)
+        (λ source. met source (drop at.entry.dim scan.now.cells.now) cell.old at.entry.dim)
+        (λ source. cost source (drop at.entry.dim scan.now.cells.now) cell.old at.entry.dim)
+        hits.old.items hits.new.items cell.old cell.new steps.old steps.new result }
+{
+    let mut children = Children::none();
+    if !children.read(scan.tree, at.node, at.dim, at.codes, steps) {
+        return visit_each(scan, at, cell, hits, steps);
+    }
+    visit_children(scan, at, &children, cell, hits, steps)
+}
+
+// The hits for each of the codes, by the children that were read.
+#[cycle(walking)]
+fn visit_children<T: Nodes, L: Ledger>(
+    scan: &Scan<T>,
+    at: Listed,
+    children: &Children,
+    cell: &mut Cell,
+    hits: &mut Vec<Hit>,
+    steps: &mut Steps<L>,
+) -> Result<(), RangeRefused>
+    requires on { GoesOn (T.width scan.now.tree.now) (T.tree scan.now.tree.now) scan.now.cells.now
+        scan.now.limit at.node.0 cell.old at.dim hits.old.items }
+    requires dim { at.dim < T.width scan.now.tree.now }
+    requires codes { slice_index_or scan.now.cells.now at.dim None ≡ Some at.codes.now }
+    requires small { All IsCode at.codes.now }
+    requires len { children.now.len ≤ MAX_READ }
+    requires places { length at.codes.now ≤ MAX_PLACES }
+    requires children { AreChildren at.codes.now at.dim
+        (record_at (T.tree scan.now.tree.now) at.node.0).edges
+        (take children.now.len children.now.items) }
+    ensures { Finds (T.width scan.now.tree.now) (T.tree scan.now.tree.now) scan.now.limit
+        (λ source. met source (drop at.entry.dim scan.now.cells.now) cell.old at.entry.dim)
+        (λ source. cost source (drop at.entry.dim scan.now.cells.now) cell.old at.entry.dim)
+        hits.old.items hits.new.items cell.old cell.new steps.old
+        (steps.new + (1 + length at.entry.codes.now)) result }
+{
+    let mut from = 0;
+    'children: while let Some(child) = children.next(from, at.codes.len() as u32) {
+        let after = Position {
+            node: child.node,
+            dim: at.dim,
+        };
+        match enter(
+            scan,
+            after,
+            at.codes[child.place as usize],
+            cell,
+            hits,
+            steps,
+        ) {
+            Ok(()) => {}
+            Err(error) => return Err(error),
+        }
+        from = child.place + 1;
+    }
+    Ok(())
+}
+
+// The hits for each of the codes, which are searched for one after another.
+#[cycle(walking)]
+fn visit_each<T: Nodes, L: Ledger>(
+    scan: &Scan<T>,
+    at: Listed,
+    cell: &mut Cell,
+    hits: &mut Vec<Hit>,
+    steps: &mut Steps<L>,
+) -> Result<(), RangeRefused>
+    requires on { GoesOn (T.width scan.now.tree.now) (T.tree scan.now.tree.now) scan.now.cells.now
+        scan.now.limit at.node.0 cell.old at.dim hits.old.items }
+    requires dim { at.dim < T.width scan.now.tree.now }
+    requires codes { slice_index_or scan.now.cells.now at.dim None ≡ Some at.codes.now }
+    requires small { All IsCode at.codes.now }
+    ensures { Finds (T.width scan.now.tree.now) (T.tree scan.now.tree.now) scan.now.limit
+        (λ source. met source (drop at.entry.dim scan.now.cells.now) cell.old at.entry.dim)
+        (λ source. cost source (drop at.entry.dim scan.now.cells.now) cell.old at.entry.dim)
         hits.old.items hits.new.items cell.old cell.new steps.old (steps.new + 1) result }
 {
+    let codes = at.codes;
     'codes: for k in 0..codes.len() {
-        match enter(scan, at, codes[k], cell, hits, steps) {
+        match search(scan, at, codes[k], cell, hits, steps) {
             Ok(()) => {}
             Err(error) => return Err(error),
         }
@@ -135,6 +195,34 @@ fn visit_codes<T: Nodes, L: Ledger>(
 }
 
 // The hits for one code, if rows are left with it.
+#[cycle(walking)]
+fn search<T: Nodes, L: Ledger>(
+    scan: &Scan<T>,
+    at: Listed,
+    code: Code,
+    cell: &mut Cell,
+    hits: &mut Vec<Hit>,
+    steps: &mut Steps<L>,
+) -> Result<(), RangeRefused>
+    requires on { GoesOn (T.width scan.now.tree.now) (T.tree scan.now.tree.now) scan.now.cells.now
+        scan.now.limit at.node.0 cell.old at.dim hits.old.items }
+    requires dim { at.dim < T.width scan.now.tree.now }
+    requires small { IsCode code }
+    ensures { Finds (T.width scan.now.tree.now) (T.tree scan.now.tree.now) scan.now.limit
+        (λ source. entered source (drop (at.entry.dim + 1) scan.now.cells.now) cell.old
+        at.entry.dim (Some code))
+        (λ source. entry_cost 1 source (drop (at.entry.dim + 1) scan.now.cells.now) cell.old
+        at.entry.dim (Some code))
+        hits.old.items hits.new.items cell.old cell.new steps.old steps.new result }
+{
+    let Some(node) = scan.tree.edge(at.node, at.dim, code, steps) else {
+        return Ok(());
+    };
+    let dim = at.dim;
+    enter(scan, Position { node, dim }, code, cell, hits, steps)
+}
+
+// The hits with the code, from the node that it leads to.
 #[cycle(walking)]
 fn enter<T: Nodes, L: Ledger>(
     scan: &Scan<T>,
@@ -145,24 +233,24 @@ fn enter<T: Nodes, L: Ledger>(
     steps: &mut Steps<L>,
 ) -> Result<(), RangeRefused>
     requires on { GoesOn (T.width scan.now.tree.now) (T.tree scan.now.tree.now) scan.now.cells.now
-        scan.now.limit at.node.0 cell.old at.dim hits.old.items }
-    requires dim { at.dim < T.width scan.now.tree.now }
+        scan.now.limit at.node.0 (slice_set cell.old at.dim (Some code)) (at.dim + 1)
+        hits.old.items }
+    requires dim { at.dim < length cell.old }
+    requires back { slice_set (slice_set cell.old at.dim (Some code)) at.dim None ≡ cell.old }
     requires small { IsCode code }
-    requires forced { option_map edge_of at.forced
-        ≡ (record_at (T.tree scan.now.tree.now) at.node.0).forced }
     ensures { Finds (T.width scan.now.tree.now) (T.tree scan.now.tree.now) scan.now.limit
-        (λ source. entered source (drop (at.dim + 1) scan.now.cells.now) cell.old
-        at.dim (Some code))
-        (λ source. entry_cost source (drop (at.dim + 1) scan.now.cells.now) cell.old
-        at.dim (Some code))
+        (λ source. met source (drop (at.dim + 1) scan.now.cells.now)
+        (slice_set cell.old at.dim (Some code)) (at.dim + 1))
+        (λ source. cost source (drop (at.dim + 1) scan.now.cells.now)
+        (slice_set cell.old at.dim (Some code)) (at.dim + 1))
         hits.old.items hits.new.items cell.old cell.new steps.old steps.new result }
 {
-    let entry = Entry::Is(code);
-    let Some(child) = step_with_forced(scan.tree, at.node, at.forced, at.dim, entry, steps) else {
-        return Ok(());
+    cell.set(at.dim, Entry::Is(code));
+    let after = Position {
+        node: at.node,
+        dim: at.dim + 1,
     };
-    cell.set(at.dim, entry);
-    match visit(scan, child, at.dim + 1, cell, hits, steps) {
+    match visit(scan, after, cell, hits, steps) {
         Ok(()) => {
             cell.set(at.dim, Entry::Any);
             Ok(())

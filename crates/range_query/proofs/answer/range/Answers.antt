@@ -1,6 +1,9 @@
 use Rattle.std.proofs.Common.{None, length, replicate, ap, ◌∙◌, arith}
+use Rattle.value_dict.specs.Recoded.{text_in}
+use Rattle.value_dict.proofs.CallerLemmas.{text_total}
 use Rattle.range_query.specs.DecodedHits.{decoded_hits}
 use Rattle.range_query.proofs.Answering.{answer_few, answer_is_told, answer_more, answer_steps, answer_told, range_none, stands_root}
+use Rattle.range_query.proofs.Distinct.{ordered_apart}
 use Rattle.range_query.proofs.Lists.{err_other}
 use Rattle.range_query.proofs.answer.range.Goals as goal
 
@@ -18,6 +21,7 @@ visit-requires g c =
         is_tree = c.requires.tree;
         long = c.requires.dims;
         few = omega (arith, c.requires.dict_dims, c.dims-dims.ensures.dictionary.few_dims);
+        distinct = ordered_apart text_total (text_in c.args.dict.now.lists) 0 c.args.cells.now c.requires.order;
       };
       stands = stands_root _ _ c.in-Some.root.0 c.any-cell.result (c.any-cell.ensures.value
           ∙ ap (λ n. replicate n None) wide) c.in-Some.ensures.some;
