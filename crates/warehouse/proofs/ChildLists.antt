@@ -1,7 +1,7 @@
 -- The classes of a tree hand their aggregates to children, as their list is gone through, and get them back.
 use Rattle.std.proofs.Common.{◌≡◌, ◌≢◌, inl, inr, ℕ, zero, suc, ◌+◌, ◌-◌, ◌<◌, ◌≤◌, Bool, true, false, cond, ◌||◌, Option, Some, None, List}
-use Rattle.std.proofs.Common.{[], ◌∷◌, ◌++◌, length, is_some, take, slice_get, set, nat_eq, refl, sym, ap, ap₂, subst, ◌∙◌, arith, true≢false}
-use Rattle.std.proofs.Common.{eq-eqb, eqb-true}
+use Rattle.std.proofs.Common.{[], ◌∷◌, ◌++◌, length, is_some, take, slice_get, set, nat_eq, refl, sym, ap, ap₂, subst, ◌∙◌, arith}
+use Rattle.std.proofs.Common.{eq-eqb, eqb-true, true≢false}
 use Rattle.std.specs.Prelude.{IsSome}
 use Rattle.std.proofs.lemmas.Bool.Decides.{eqb_tells}
 use Rattle.std.proofs.lemmas.Bool.{cond-true, cond-false, false_from_ne_true}
