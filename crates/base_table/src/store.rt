@@ -225,8 +225,8 @@ impl Store {
         Ok(())
     }
 
-    /// Prepares the look-up of rows by their fingerprints, of all rows that were appended since it was
-    /// prepared last. Takes no memory.
+    /// Prepares the look-up by fingerprints for all rows that were appended since it was prepared
+    /// last. Takes no memory.
     pub fn link_fingerprints(&mut self)
         ensures { self.new ≡ self.old }
     {

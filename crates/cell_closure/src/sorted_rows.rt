@@ -15,10 +15,10 @@ use std::marker::Model;
 use std::mem::ManuallyDrop;
 use std::snapshot::Snapshot;
 
-/// A copy of the rows of a table in the order of the first values of their tuples: rows whose tuples
-/// begin alike lie next to each other. Only so many dimensions count for the order that few rows
-/// agree on all of them. Tuples of one dimension keep the order of the table, since a walk groups
-/// them only once. The number of a row is its place in this order.
+/// A copy of the rows of a table in the order of the first values of their tuples: rows whose
+/// tuples begin alike lie next to each other. Only so many dimensions count for the order that few
+/// rows agree on all of them. Tuples of one dimension keep the order of the table, since a walk
+/// groups them only once. The number of a row is its place in this order.
 #[derive(Drop)]
 pub struct SortedRows {
     dims: u8,
