@@ -13,9 +13,9 @@ pub struct Part {
 /// are zero.
 #[derive(Clone, Copy)]
 pub struct Agg {
+    pub parts: [Part; MAX_MEASURES as usize],
     pub count: u32,
     pub measures: u8,
-    pub parts: [Part; MAX_MEASURES as usize],
     pub ghost in_range: { IsAggregate count measures parts },
 }
 
@@ -126,6 +126,11 @@ fn add_amounts(parts: &mut [Part; MAX_MEASURES as usize], amounts: &[i64])
         slice_index_or parts.new k zero_part ≡ slice_index_or parts.old k zero_part }
     ensures four { length parts.new ≡ MAX_MEASURES }
 {
+    // One measure is the most frequent case, and needs no loop.
+    if amounts.len() == 1 {
+        parts[0] = parts[0].joined(Part::single(amounts[0]));
+        return;
+    }
     'parts: for i in 0..amounts.len() {
         parts[i] = parts[i].joined(Part::single(amounts[i]));
     }

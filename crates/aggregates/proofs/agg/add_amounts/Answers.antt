@@ -9,9 +9,9 @@ parts-preserved c = record {
   joined = below_more _ _
       (λ k h. let ne : k ≢ c.parts.i = omega arith in rw get_or-set_other (c.parts.invariant.joined k h))
       (let lt : c.parts.i < length c.parts.parts = omega arith in rw get_or-set_same
-      (c.joined.ensures
+      (c.joined-in-parts.ensures
       ∙ ap₂ joined (c.parts.invariant.others c.parts.i (omega arith))
-      (c.single.ensures ∙ ap single
+      (c.single-in-parts.ensures ∙ ap single
       (to_z-of_z w64 (slice_index_or c.args.amounts.now c.parts.i (pos 0)) (search rules)))));
   others = λ k h. let ne : k ≢ c.parts.i = omega arith in
       rw get_or-set_other (c.parts.invariant.others k (omega arith));
