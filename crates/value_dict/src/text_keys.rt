@@ -1,6 +1,6 @@
 // The hash of texts, under drawn keys.
-ghost use Rattle.std.specs.Prelude.{◌≡◌};
-ghost use Rattle.value_dict.specs.Hashing.{step};
+ghost use Rattle.std.specs.Prelude.{length, slice_index_or, ◌<◌, ◌≡◌, ◌≤◌};
+ghost use Rattle.value_dict.specs.Hashing.{coefficient, step};
 
 use cell_core::HashKeys;
 use std::hash::{BuildHasher, Hasher};
@@ -11,21 +11,46 @@ const PRIME: u64 = 4_294_967_291;
 /// Makes the low and the high bits of a hash depend on all of its value.
 const SPREAD: u64 = 0x9e37_79b9_7f4a_7c15;
 
-/// The hash of a text: the value of a polynomial at a drawn multiplier, modulo a prime. Its
-/// coefficients are the text's bytes, each with 1 added. Two texts share a value under at most as
-/// many multipliers as the longer one has bytes (Carter and Wegman, 1979). So whoever doesn't know
-/// the multiplier can hardly choose two texts that share a value.
+/// So many bytes of a text make one coefficient.
+const PIECE: usize = 3;
+
+/// The hash of a text: the value of a polynomial at a drawn multiplier, modulo a prime. It has a
+/// coefficient for each piece of three bytes, and one for the bytes that are left. Two texts share
+/// a value under at most as many multipliers as the longer one has pieces (Carter and Wegman,
+/// 1979). So whoever doesn't know the multiplier can hardly choose two texts that share a value.
 #[derive(Clone, Copy)]
 pub(crate) struct TextHasher {
     value: u32,
     multiplier: u32,
 }
 
-// The value of the polynomial with one more coefficient.
-fn step(multiplier: u32, value: u32, byte: u8) -> u32
-    ensures { result ≡ step multiplier value byte }
+// A byte of a piece. It is zero after the piece's end.
+fn byte_at(piece: &[u8], place: usize) -> u32
+    ensures value { result ≡ slice_index_or piece.now place 0 }
+    ensures small { result < 256 }
 {
-    ((u64::from(value) * u64::from(multiplier) + u64::from(byte) + 1) % PRIME) as u32
+    match piece.get(place) {
+        None => 0,
+        Some(byte) => u32::from(*byte),
+    }
+}
+
+// The coefficient of a piece: the number whose bytes are those of the piece and then its length.
+fn coefficient(piece: &[u8]) -> u32
+    requires { length piece.now ≤ 3 }
+    ensures { result ≡ coefficient piece.now }
+{
+    byte_at(piece, 0)
+        + 256 * byte_at(piece, 1)
+        + 65_536 * byte_at(piece, 2)
+        + 16_777_216 * piece.len() as u32
+}
+
+// The value of the polynomial with one more coefficient.
+fn step(multiplier: u32, value: u32, coefficient: u32) -> u32
+    ensures { result ≡ step multiplier value coefficient }
+{
+    ((u64::from(value) * u64::from(multiplier) + u64::from(coefficient)) % PRIME) as u32
 }
 
 impl Hasher for TextHasher {
@@ -42,10 +67,12 @@ impl Hasher for TextHasher {
     fn write(&mut self, bytes: &[u8]) {
         let multiplier = self.multiplier;
         let mut value = self.value;
-        'bytes: for byte in bytes {
-            value = step(multiplier, value, *byte);
+        let mut at = 0;
+        'pieces: while bytes.len() - at > PIECE {
+            value = step(multiplier, value, coefficient(&bytes[at..at + PIECE]));
+            at += PIECE;
         }
-        self.value = value;
+        self.value = step(multiplier, value, coefficient(&bytes[at..]));
     }
 }
 
