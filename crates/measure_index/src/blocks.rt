@@ -38,7 +38,7 @@ fn begins_after(block: &Vec<Key>, key: &Key) -> bool
     ensures { (d : Key)
         → result ≡ is_gt (key_cmp (slice_index_or block.now.items 0 d) key.now) }
 {
-    block[0].cmp(key).is_gt()
+    key.is_before(&block[0])
 }
 
 // The last block up to a number that doesn't begin after the key, and the first one from there on
@@ -87,7 +87,7 @@ fn place_in(keys: &[Key], key: &Key) -> usize
     let mut high = keys.len();
     'halves: while low < high {
         let middle = low + (high - low) / 2;
-        if keys[middle].cmp(key).is_lt() {
+        if keys[middle].is_before(key) {
             low = middle + 1;
         } else {
             high = middle;

@@ -96,7 +96,7 @@ impl Ord for Key {
 
 impl Key {
     ghost use Rattle.std.specs.Prelude.{◌≡◌};
-    ghost use Rattle.std.specs.Ordering.{int_cmp, nat_cmp, ordering_then};
+    ghost use Rattle.std.specs.Ordering.{int_cmp, is_lt, nat_cmp, ordering_then};
     ghost use Rattle.measure_index.specs.ColumnKeys.{key_cmp};
 
     /// The same as `cmp` for keys with equal divisors. Most numbers differ, so a sort seldom reads
@@ -109,6 +109,26 @@ impl Key {
             self.node.cmp(&other.node)
         } else {
             self.num.cmp(&other.num)
+        }
+    }
+
+    // The same as `is_before` for keys with equal divisors.
+    fn has_smaller_number(&self, other: &Key) -> bool
+        ensures { result ≡ is_lt (ordering_then (int_cmp self.now.num other.now.num)
+            (nat_cmp self.now.node other.now.node)) }
+    {
+        self.num < other.num || self.num == other.num && self.node < other.node
+    }
+
+    /// Whether the key is smaller. A search asks no more, and this takes fewer instructions than
+    /// `cmp`.
+    pub(crate) fn is_before(&self, other: &Key) -> bool
+        ensures { result ≡ is_lt (key_cmp self.now other.now) }
+    {
+        if self.den == other.den {
+            self.has_smaller_number(other)
+        } else {
+            self.compare_products(other).is_lt()
         }
     }
 
