@@ -10,18 +10,24 @@ use Rattle.cube_defs.specs.Rows.{Part, part_of}
 use Rattle.qc_schema.specs.Schema.{Measure, no_measure}
 use Rattle.reply_text.specs.Replies.{fields_text, part_texts, parts_texts, record_text}
 
-regroup-four : (out w x y z : List ℕ) → (((out ++ w) ++ x) ++ y) ++ z ≡ out ++ (w ++ (x ++ (y ++ z)))
-regroup-four out w x y z = simp append_assoc
+regroup-three : (out x y z : List ℕ) → ((out ++ x) ++ y) ++ z ≡ out ++ (x ++ (y ++ z))
+regroup-three out x y z = simp append_assoc
 
-pub four-fields : (out a b c d : List ℕ) → (((out ++ 44 ∷ a) ++ 44 ∷ b) ++ 44 ∷ c) ++ 44 ∷ d ≡ out
-    ++ fields_text (a ∷ b ∷ c ∷ d ∷ [])
-four-fields out a b c d = regroup-four out (44 ∷ a) (44 ∷ b) (44 ∷ c) (44 ∷ d)
-    ∙ ap (λ (z : List ℕ). out ++ ((44 ∷ a) ++ ((44 ∷ b) ++ ((44 ∷ c) ++ (44 ∷ z))))) (sym (append-nil d))
+pub three-fields : (out a b c : List ℕ) → ((out ++ 44 ∷ a) ++ 44 ∷ b) ++ 44 ∷ c ≡ out ++ fields_text (a ∷ b ∷ c ∷ [])
+three-fields out a b c = regroup-three out (44 ∷ a) (44 ∷ b) (44 ∷ c)
+    ∙ ap (λ (z : List ℕ). out ++ ((44 ∷ a) ++ ((44 ∷ b) ++ (44 ∷ z)))) (sym (append-nil c))
 
 pub fields-append : (xs ys : List Text) → fields_text (xs ++ ys) ≡ fields_text xs ++ fields_text ys
 fields-append [] ys = refl
 fields-append (x ∷ xs) ys = ap (λ (z : List ℕ). 44 ∷ x ++ z) (fields-append xs ys)
     ∙ ap (λ (z : List ℕ). 44 ∷ z) (sym (append_assoc x (fields_text xs) (fields_text ys)))
+
+-- a field after three
+pub fourth-field : (out a b c d : List ℕ) → (out ++ fields_text (a ∷ b ∷ c ∷ [])) ++ 44 ∷ d ≡ out
+    ++ fields_text (a ∷ b ∷ c ∷ d ∷ [])
+fourth-field out a b c d = append_assoc out (fields_text (a ∷ b ∷ c ∷ [])) (44 ∷ d)
+    ∙ ap (λ (z : List ℕ). out ++ (fields_text (a ∷ b ∷ c ∷ []) ++ 44 ∷ z)) (sym (append-nil d))
+    ∙ ap (λ (z : List ℕ). out ++ z) (sym (fields-append (a ∷ b ∷ c ∷ []) (d ∷ [])))
 
 -- the first field, and each other after a comma
 pub record-fields : (x : Text) (xs : List Text) → join_with_byte 44 (x ∷ xs) ≡ x ++ fields_text xs

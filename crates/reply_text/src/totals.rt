@@ -1,5 +1,5 @@
 // The aggregate of some rows, as fields.
-ghost use Rattle.std.specs.Prelude.{OnOk, length, ◌++◌, ◌<◌, ◌∷◌, ◌≡◌, ◌≤◌};
+ghost use Rattle.std.specs.Prelude.{OnOk, [], length, ◌++◌, ◌<◌, ◌∷◌, ◌≡◌, ◌≤◌};
 ghost use Rattle.aggregates.specs.Texts.{amount_text, ratio_text};
 ghost use Rattle.aggregates.specs.Views.{agg_in, part_in, ratio_in};
 ghost use Rattle.cube_defs.specs.Answers.{part};
@@ -18,6 +18,38 @@ fn push_amount(out: &mut Vec<u8>, amount: i64, scale: u8) -> Result<(), Memory>
     let mut text = [0; 48];
     let len = print_amount(amount, scale, &mut text);
     push_field(out, &text[..len])
+}
+
+// An amount, beside another one whose text is given.
+fn push_beside(
+    out: &mut Vec<u8>,
+    amount: i64,
+    scale: u8,
+    other: i64,
+    text: &[u8],
+) -> Result<(), Memory>
+    requires scale { scale ≤ MAX_SCALE }
+    requires text { text.now ≡ amount_text scale other }
+    ensures { OnOk result (out.new.items ≡ out.old.items ++ 44 ∷ amount_text scale amount) }
+{
+    if amount == other {
+        return push_field(out, text);
+    }
+    push_amount(out, amount, scale)
+}
+
+// The sum, the least and the greatest amount. They are often equal, and the text is then made once.
+fn push_amounts(out: &mut Vec<u8>, part: Part, scale: u8) -> Result<(), Memory>
+    requires { scale ≤ MAX_SCALE }
+    ensures { OnOk result (out.new.items ≡ out.old.items ++ fields_text
+        (amount_text scale part.sum ∷ amount_text scale part.least
+        ∷ amount_text scale part.greatest ∷ [])) }
+{
+    let mut text = [0; 48];
+    let len = print_amount(part.sum, scale, &mut text);
+    push_field(out, &text[..len])?;
+    push_beside(out, part.least, scale, part.sum, &text[..len])?;
+    push_beside(out, part.greatest, scale, part.sum, &text[..len])
 }
 
 fn push_ratio(out: &mut Vec<u8>, ratio: &Ratio) -> Result<(), Memory>
@@ -45,9 +77,7 @@ fn push_part(out: &mut Vec<u8>, agg: &Agg, measure: u8, scale: u8) -> Result<(),
         ++ fields_text (part_texts agg.now.count scale (part (agg_in agg.now) measure))) }
 {
     let part = part_at(agg, measure);
-    push_amount(out, part.sum, scale)?;
-    push_amount(out, part.least, scale)?;
-    push_amount(out, part.greatest, scale)?;
+    push_amounts(out, part, scale)?;
     push_ratio(out, &mean(agg, measure, scale))?;
     Ok(())
 }
