@@ -1,5 +1,5 @@
 // The answer to a range query.
-ghost use Rattle.std.specs.Prelude.{All, Err, IfOk, length, ◌*◌, ◌+◌, ◌<◌, ◌≡◌, ◌≤◌};
+ghost use Rattle.std.specs.Prelude.{All, Err, IfOk, [], length, ◌*◌, ◌+◌, ◌<◌, ◌≡◌, ◌≤◌};
 ghost use Rattle.cube_defs.specs.Text.{text_cmp};
 ghost use Rattle.cube_laws.specs.Recoding.{BoxIsKnown, RowsAreKnown};
 ghost use Rattle.tree_search.specs.Found.{IsTreeOf, IsTree, TreeRows};
@@ -8,12 +8,22 @@ ghost use Rattle.value_dict.specs.Recoded.{has_code};
 ghost use Rattle.range_query.specs.DecodedHits.{IsDecodableHit, hit_in, decoded_hits, decoded_range, decoded_work};
 
 use crate::walk::{Position, Scan, visit};
-use crate::{Hit, RangeRefused};
+use crate::{Hit, MAX_RANGE_CELLS, RangeRefused};
 use cell_core::{Cell, Steps};
 use qc_arena::Nodes;
 use std::alloc::Global;
 use std::sync::ledger::Ledger;
 use value_dict::{CellBox, Dict};
+
+// An empty list. It has room for the largest answer, if there is so much memory.
+fn no_hits(alloc: Global, limit: u32) -> Vec<Hit>
+    ensures { result.items ≡ [] }
+{
+    match Vec::with_capacity(alloc, limit.min(MAX_RANGE_CELLS) as usize) {
+        Ok(hits) => hits,
+        Err(_) => Vec::new(alloc),
+    }
+}
 
 /// The cells of the box that cover a row, in cell order, each with its aggregate. Both the box's
 /// lists and the cells are in the order of the texts. TooMany is the answer if there are more than
@@ -54,7 +64,7 @@ pub fn range<T: Nodes, L: Ledger>(
         steps.new ≤ steps.old + 3 * (1 + decoded_work dict.now.lists source cells.now) }
 {
     let dims = dict.dims();
-    let mut hits = Vec::new(alloc);
+    let mut hits = no_hits(alloc, limit);
     let Some(root) = tree.root(steps) else {
         return Ok(hits);
     };

@@ -9,7 +9,7 @@ use Rattle.range_query.proofs.answer.range.Goals as goal
 
 pub returns-in_default-clause-hits : goal.returns-in_default-clause-hits
 returns-in_default-clause-hits g c = λ source h known.
-    ap (decoded_hits c.args.dict.now.lists) c.new-hits.ensures.items
+    ap (decoded_hits c.args.dict.now.lists) c.no_hits-hits.ensures
     ∙ range_none _ _ c.args.dict.now.lists c.args.cells.now source h c.dims-dims.ensures.dictionary.distinct
     c.requires.dict_dims c.requires.dims c.requires.known c.requires.order known c.in_default.ensures.none
 
@@ -25,7 +25,7 @@ visit-requires g c =
       };
       stands = stands_root _ _ c.in-Some.root.0 c.any-cell.result (c.any-cell.ensures.value
           ∙ ap (λ n. replicate n None) wide) c.in-Some.ensures.some;
-      few = omega (arith, ap length c.new-hits.ensures.items);
+      few = omega (arith, ap length c.no_hits-hits.ensures);
     }
 
 pub returns-in-Ok-clause-hits : goal.returns-in-Ok-clause-hits
@@ -34,7 +34,7 @@ returns-in-Ok-clause-hits g c = λ source h known.
     c.requires.dict_dims c.requires.dims c.requires.known c.requires.order known c.in-Some.root.0 c.any-cell.result
     (c.any-cell.ensures.value ∙ ap (λ n. replicate n None) (c.dims-dims.ensures.value ∙ c.requires.dict_dims))
     c.in-Some.ensures.some
-    c.visit.new.hits.items c.new-hits.result.items c.new-hits.ensures.items (c.in-Ok.ensures.hits source h)
+    c.visit.new.hits.items c.no_hits-hits.result.items c.no_hits-hits.ensures (c.in-Ok.ensures.hits source h)
 
 pub returns-in-Ok-clause-told : goal.returns-in-Ok-clause-told
 returns-in-Ok-clause-told g c = λ source h known.
@@ -42,7 +42,7 @@ returns-in-Ok-clause-told g c = λ source h known.
     c.requires.dict_dims c.requires.dims c.requires.known c.requires.order known c.in-Some.root.0 c.any-cell.result
     (c.any-cell.ensures.value ∙ ap (λ n. replicate n None) (c.dims-dims.ensures.value ∙ c.requires.dict_dims))
     c.in-Some.ensures.some
-    c.visit.new.hits.items c.new-hits.result.items c.new-hits.ensures.items (c.in-Ok.ensures.hits source h)
+    c.visit.new.hits.items c.no_hits-hits.result.items c.no_hits-hits.ensures (c.in-Ok.ensures.hits source h)
 
 pub returns-in-Ok-clause-steps : goal.returns-in-Ok-clause-steps
 returns-in-Ok-clause-steps g c = λ source h known.
@@ -58,7 +58,7 @@ returns-in-Err-clause-too_many g c = λ e source h known.
     c.requires.dict_dims c.requires.dims c.requires.known c.requires.order known c.in-Some.root.0 c.any-cell.result
     (c.any-cell.ensures.value ∙ ap (λ n. replicate n None) (c.dims-dims.ensures.value ∙ c.requires.dict_dims))
     c.in-Some.ensures.some
-    c.args.limit c.new-hits.result.items c.new-hits.ensures.items (c.in-Err.ensures.too_many (err_other _ _ e) source h)
+    c.args.limit c.no_hits-hits.result.items c.no_hits-hits.ensures (c.in-Err.ensures.too_many (err_other _ _ e) source h)
 
 pub returns-in-Err-clause-steps : goal.returns-in-Err-clause-steps
 returns-in-Err-clause-steps g c = λ source h known.
