@@ -14,6 +14,9 @@ use range_query::Hit;
 use std::alloc::Global;
 use value_dict::Dict;
 
+// Most records are at most so long.
+const RECORD_ROOM: usize = 80;
+
 // The record of a cell, of which the word and the line's number are given.
 fn push_hit(
     out: &mut Vec<u8>,
@@ -75,7 +78,7 @@ pub fn range_reply(
     ensures { IfOk result (λ reply. reply.items ≡ range_text line schema.now.measures
         (decoded_hits dict.now.lists hits.now)) }
 {
-    let mut out = Vec::new(alloc);
+    let mut out = Vec::with_capacity(alloc, hits.len().saturating_mul(RECORD_ROOM))?;
     push_hits(&mut out, line, schema, dict, hits)?;
     push_end(&mut out, line, hits.len() as u64)?;
     Ok(out)
