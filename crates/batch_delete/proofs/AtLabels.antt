@@ -68,8 +68,8 @@ module _ {dims : ℕ} {nodes : Tree ℕ} {d : Deletion} {t u : Cell ℕ} {i numb
   -- the steps of the labels before the k-th
   pub paid : (k steps old : ℕ) → k ≤ length edges
       → ((v : ℕ) → get_or t i None ≡ Some v
-      → steps ≤ old + (3 + length edges + k + (4 * length u + 5) * length (other_values i v (take k edges))))
-      → steps + (4 * length u + 5) ≤ old + (3 + (4 * length u + 7) * length edges)
+      → steps ≤ old + (5 + length edges + 3 * k + (4 * length u + 3) * length (other_values i v (take k edges))))
+      → steps ≤ old + (2 + (4 * length u + 7) * length edges)
   paid k steps old within had =
       let own = own_label dims nodes d is.tree u i value.0 is.any is.long is.class.own number is.front
       is.class.below value.1 in

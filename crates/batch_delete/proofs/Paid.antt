@@ -21,16 +21,16 @@ own_label dims tree d h u i v any long own k at below has =
     ((among_insert d.r d.xs d.r d.ys).1 (inl refl)) below has in
     others_fewer i v (record_at tree k).edges (record { dim = i; value = v; target = l.0 }) refl l.1
 
-times_three : (d e : ℕ) → (d + 2) * e ≡ d * e + 2 * e
-times_three zero e = omega arith
-times_three (suc d) e = let more = times_three d e in omega arith
+times_four : (d e : ℕ) → (d + 4) * e ≡ d * e + 4 * e
+times_four zero e = omega arith
+times_four (suc d) e = let more = times_four d e in omega arith
 
 -- so many labels were read, and so many of them looked up
-pub label_steps : (n e k m s old : ℕ) → s ≤ old + (3 + e + k + (4 * n + 5) * m) → k ≤ e → suc m ≤ e
-    → s + (4 * n + 5) ≤ old + (3 + (4 * n + 7) * e)
+pub label_steps : (n e k m s old : ℕ) → s ≤ old + (5 + e + 3 * k + (4 * n + 3) * m) → k ≤ e → suc m ≤ e
+    → s ≤ old + (2 + (4 * n + 7) * e)
 label_steps n e k m s old h a b =
-    let up = times_mono (4 * n + 5) (m + 1) e (omega arith) in
-    let one = times_more (4 * n + 5) m in
-    let split = times_three (4 * n + 5) e in
-    let same : 4 * n + 5 + 2 ≡ 4 * n + 7 = omega arith in
-    subst (λ c. s + (4 * n + 5) ≤ old + (3 + c * e)) same (omega arith)
+    let up = times_mono (4 * n + 3) (m + 1) e (omega arith) in
+    let one = times_more (4 * n + 3) m in
+    let split = times_four (4 * n + 3) e in
+    let same : 4 * n + 3 + 4 ≡ 4 * n + 7 = omega arith in
+    subst (λ c. s ≤ old + (2 + c * e)) same (omega arith)

@@ -1,0 +1,59 @@
+use Rattle.std.proofs.Common.{◌≡◌, ◌∙◌, ◌+◌, suc, ap, arith, nat_cmp, length-set, subst, sym, Some}
+use Rattle.std.specs.Ordering.{eq_by_cmp}
+use Rattle.cell_core.specs.Entry.{value_in}
+use Rattle.cube_defs.specs.Cell.{with_value}
+use Rattle.tree_laws.specs.Walk.{closure_prefix}
+use Rattle.tree_search.specs.Found.{IsNumberOfCell}
+use Rattle.batch_delete.specs.Rests.{rows_before, source_before}
+use Rattle.batch_delete.proofs.PartialSearches.{ends, entry_after, goes_on, stops}
+use Rattle.batch_delete.proofs.partial_search.find_after.Goals as goal
+
+pub returns-in_err-node-clause-found : goal.returns-in_err-node-clause-found
+returns-in_err-node-clause-found g c =
+    let a = c.args.arena.now in
+    let i = c.args.label.0 in
+    let v = c.args.label.1 in
+    let cell = with_value c.args.cell.now i v in
+    let long = c.requires.1.0.long in
+    let same = length-set c.args.cell.now i (Some v) in
+    let many = c.dims-dims.ensures.value in
+    let at = entry_after c.args.cell.now i v c.dims.next (omega (arith, c.dims.invariant.from, c.requires.1.1)) (omega arith)
+    ∙ ap (λ x. Some x) (sym c.get.ensures.value) in
+    let on = goes_on a.width a.now (source_before g.d) c.requires.1.0.tree cell long c.dims.node.0 c.dims.next
+    (value_in c.get.result) _ (omega arith) at c.dims.invariant.on (sym c.in_err-node.ensures.value) in
+    rw c.from_residual.ensures (stops a.width a.now (source_before g.d) c.requires.1.0.tree cell long (suc c.dims.next) on)
+
+pub dims-preserved : goal.dims-preserved
+dims-preserved g c =
+    let a = c.args.arena.now in
+    let i = c.args.label.0 in
+    let v = c.args.label.1 in
+    let cell = with_value c.args.cell.now i v in
+    let long = c.requires.1.0.long in
+    let same = length-set c.args.cell.now i (Some v) in
+    let many = c.dims-dims.ensures.value in
+    let at = entry_after c.args.cell.now i v c.dims.next (omega (arith, c.dims.invariant.from, c.requires.1.1)) (omega arith)
+    ∙ ap (λ x. Some x) (sym c.get.ensures.value) in
+    let on = goes_on a.width a.now (source_before g.d) c.requires.1.0.tree cell long c.dims.node.0 c.dims.next
+    (value_in c.get.result) _ (omega arith) at c.dims.invariant.on (sym c.in_ok-node.ensures.value) in
+    let next : suc c.dims.next ≡ c.dims.next + 1 = omega arith in
+    let had = c.dims.invariant.steps in
+    let from = c.dims.invariant.from in
+    let took = c.step.ensures.steps in
+    record {
+      on = subst (λ n. IsNumberOfCell a.now (Some c.in_ok-node.node.0)
+          (closure_prefix (eq_by_cmp nat_cmp) (rows_before g.d) cell n)) next on;
+      from = omega (arith, c.dims.invariant.from);
+      steps = omega arith;
+    }
+
+pub returns-clause-found : goal.returns-clause-found
+returns-clause-found g c =
+    let a = c.args.arena.now in
+    let cell = with_value c.args.cell.now c.args.label.0 c.args.label.1 in
+    let long = c.requires.1.0.long in
+    let same = length-set c.args.cell.now c.args.label.0 (Some c.args.label.1) in
+    let many = c.dims-dims.ensures.value in
+    let past = c.dims-test.false in
+    ends a.width a.now (source_before g.d) c.requires.1.0.tree cell long (Some c.dims.node.0) c.dims.next
+    (omega arith) c.dims.invariant.on
