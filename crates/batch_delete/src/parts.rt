@@ -73,19 +73,19 @@ fn join(rest: &mut Option<Rest>, part: Rest)
 // What the rows of a cell share, and their aggregate. The node is that of the cell's closure.
 fn rest_at<L: Ledger>(
     arena: &QcArena,
-    cell: &Cell,
+    cell: Cell,
     node: NodeNo,
     steps: &mut Steps<L>,
 ) -> Option<Rest>
     ghost d: { Deletion }
-    requires { HasFound d arena.now cell.now node.0 }
-    ensures rest { IsRest d.measures (rows_before d) cell.now result }
-    ensures steps { steps.new ≤ steps.old + (2 * length cell.now + 3) }
+    requires { HasFound d arena.now cell node.0 }
+    ensures rest { IsRest d.measures (rows_before d) cell result }
+    ensures steps { steps.new ≤ steps.old + (2 * length cell + 3) }
 {
     match arena.class(node, steps) {
         None => None,
         Some(agg) => {
-            let mut shared = cell.copy();
+            let mut shared = cell;
             upper_into(arena, node, &mut shared, steps);
             Some(Rest { shared, agg })
         }
@@ -151,7 +151,7 @@ fn with_part<L: Ledger>(
     let (dim, code, _) = label;
     let mut more = cell.copy();
     more.set(dim, Entry::Is(code));
-    match rest_at(arena, &more, node, steps) {
+    match rest_at(arena, more, node, steps) {
         None => false,
         Some(part) => {
             join(rest, part);
