@@ -66,13 +66,14 @@ module _ {dims : ℕ} {nodes : Tree ℕ} {d : Deletion} {t u : Cell ℕ} {i numb
       (total value.0 closes.0 value.2 closes.1))
 
   -- the steps of the labels before the k-th
-  pub paid : (k steps old : ℕ) → k ≤ length edges
+  pub paid : (k until steps old : ℕ) → k ≤ length edges → until ≤ length edges
       → ((v : ℕ) → get_or t i None ≡ Some v
-      → steps ≤ old + (5 + length edges + 3 * k + (4 * length u + 3) * length (other_values i v (take k edges))))
+      → steps ≤ old + (3 + length edges + k + 2 * length u * until
+      + (2 * length u + 3) * length (other_values i v (take k edges))))
       → steps ≤ old + (2 + (4 * length u + 7) * length edges)
-  paid k steps old within had =
+  paid k until steps old within ahead had =
       let own = own_label dims nodes d is.tree u i value.0 is.any is.long is.class.own number is.front
       is.class.below value.1 in
       let some = others_taken i value.0 edges k in
-      label_steps (length u) (length edges) k (length (other_values i value.0 (take k edges))) steps old
-      (had value.0 value.2) within (omega (arith, own, some))
+      label_steps (length u) (length edges) k until (length (other_values i value.0 (take k edges))) steps old
+      (had value.0 value.2) within ahead (omega (arith, own, some))

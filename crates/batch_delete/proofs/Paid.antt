@@ -1,5 +1,5 @@
 -- What the labels of a class's prefix cost: the one with the row's own value is not looked up.
-use Rattle.std.proofs.Common.{◌≡◌, ℕ, zero, suc, ◌+◌, ◌*◌, ◌≤◌, true, Some, None, arith, inl, length, nat_cmp, refl, slice_get, subst}
+use Rattle.std.proofs.Common.{◌≡◌, ℕ, suc, ◌+◌, ◌*◌, ◌≤◌, true, Some, None, arith, inl, length, nat_cmp, refl, slice_get}
 use Rattle.std.specs.Ordering.{eq_by_cmp}
 use Rattle.cube_defs.specs.Cell.{Cell, cell_prefix}
 use Rattle.cube_defs.specs.Rows.{closure, covers}
@@ -21,16 +21,15 @@ own_label dims tree d h u i v any long own k at below has =
     ((among_insert d.r d.xs d.r d.ys).1 (inl refl)) below has in
     others_fewer i v (record_at tree k).edges (record { dim = i; value = v; target = l.0 }) refl l.1
 
-times_four : (d e : ℕ) → (d + 4) * e ≡ d * e + 4 * e
-times_four zero e = omega arith
-times_four (suc d) e = let more = times_four d e in omega arith
+shares : (n e : ℕ) → (4 * n + 7) * e ≡ 2 * n * e + (2 * n + 3) * e + 4 * e
+shares n e = grind arith
 
--- so many labels were read, and so many of them looked up
-pub label_steps : (n e k m s old : ℕ) → s ≤ old + (5 + e + 3 * k + (4 * n + 3) * m) → k ≤ e → suc m ≤ e
-    → s ≤ old + (2 + (4 * n + 7) * e)
-label_steps n e k m s old h a b =
-    let up = times_mono (4 * n + 3) (m + 1) e (omega arith) in
-    let one = times_more (4 * n + 3) m in
-    let split = times_four (4 * n + 3) e in
-    let same : 4 * n + 3 + 4 ≡ 4 * n + 7 = omega arith in
-    subst (λ c. s ≤ old + (2 + c * e)) same (omega arith)
+-- so many labels were read, so many searched for, and so many of them joined
+pub label_steps : (n e k until m s old : ℕ) → s ≤ old + (3 + e + k + 2 * n * until + (2 * n + 3) * m) → k ≤ e → until ≤ e
+    → suc m ≤ e → s ≤ old + (2 + (4 * n + 7) * e)
+label_steps n e k until m s old h a within b =
+    let up = times_mono (2 * n + 3) (m + 1) e (omega arith) in
+    let one = times_more (2 * n + 3) m in
+    let all = times_mono (2 * n) until e within in
+    let split = shares n e in
+    omega arith

@@ -115,13 +115,12 @@ pub record HasFound (d : Deletion) (a : Arena) (c : Cell ℕ) (k : ℕ) : Type 0
   pub there : IsSome (map.get a.now k)
   pub found : IsNumberOfCell a.now (Some k) (closure_in (source_before d) c)
 
--- a label with a code in dimension i leads to where the search for a part of the class goes on
-pub record IsPartLabel (d : Deletion) (a : Arena) (u : Cell ℕ) (i v k : ℕ) : Type 0 where
+-- a label with a code in dimension i gives a part of the class
+pub record IsPartLabel (d : Deletion) (a : Arena) (u : Cell ℕ) (i v : ℕ) : Type 0 where
   pub tree : IsTreeOf a.width a.now (source_before d)
   pub long : length u ≡ a.width
   pub dim : i < length u
   pub code : IsCode v
-  pub on : GoesOn d a.now (with_value u i v) i k
 
 -- some rows of the class, if there are any: they have all its measures, and what they share is as wide
 pub record ArePartOf (d : Deletion) (u : Cell ℕ) (rest : Option Rest) : Type 0 where

@@ -10,6 +10,7 @@ mod partial_search;
 mod parts;
 mod plan;
 mod record_rewriting;
+mod searches;
 mod stays;
 mod subtracting;
 

@@ -5,69 +5,39 @@ ghost use Rattle.std.specs.Prelude.{IfSome, IsSome, Some, length, ◌*◌, ◌+�
 ghost use Rattle.cube_defs.specs.Cell.{cell_prefix, with_value};
 ghost use Rattle.cube_defs.specs.Tree.{cell_at};
 ghost use Rattle.cube_laws.specs.Parts.{IsLastAny};
-ghost use Rattle.qc_arena.specs.RecordReaders.{edge_of, number, record_at};
+ghost use Rattle.qc_arena.specs.RecordReaders.{number};
 ghost use Rattle.tree_search.specs.Found.{IsNumberOfCell, closure_in};
 ghost use Rattle.batch_delete.specs.DeletedRow.{IsClassNode, IsSearch};
 ghost use Rattle.batch_delete.specs.Rests.{Deletion, source_before};
 
 use crate::generalizing::NodeCell;
 use cell_core::{Cell, Code, NodeNo, Steps};
-use qc_arena::{Forced, Nodes, QcArena};
+use qc_arena::{Nodes, QcArena};
 use std::sync::ledger::Ledger;
-use tree_search::{step, step_with_forced};
-
-/// The node of the closure of a cell with the value of a label. The search has come to the label's
-/// node after a dimension, and goes on from there. The cell itself has Any in the label's
-/// dimension, and isn't copied.
-pub(crate) fn find_after<L: Ledger>(
-    arena: &QcArena,
-    cell: &Cell,
-    label: (u8, Code, NodeNo),
-    after: u8,
-    steps: &mut Steps<L>,
-) -> Option<NodeNo>
-    ghost d: { Deletion }
-    requires search { IsSearch d arena.now (with_value cell.now label.0 label.1) after label.2.0 }
-    requires after { label.0 ≤ after }
-    ensures found { IsNumberOfCell arena.now.now (option_map number result)
-        (closure_in (source_before d) (with_value cell.now label.0 label.1)) }
-    ensures there { IfSome result (λ node. IsSome (map.get arena.now.now node.0)) }
-    ensures steps { steps.new + 2 ≤ steps.old + 2 * length cell.now }
-{
-    let (_, _, target) = label;
-    let dims = cell.dims();
-    let mut node = target;
-    'dims: for next in after + 1..dims {
-        node = step(arena, node, next, cell.get(next), steps)?;
-    }
-    Some(node)
-}
+use tree_search::step;
 
 /// The node of the closure of a cell with the value of a label. The search goes on from the label's
-/// target, whose forced child was read before.
+/// target. The cell itself has Any in the label's dimension, and isn't copied.
 pub(crate) fn find_from<L: Ledger>(
     arena: &QcArena,
     cell: &Cell,
     label: (u8, Code, NodeNo),
-    forced: Option<Forced>,
     steps: &mut Steps<L>,
 ) -> Option<NodeNo>
     ghost d: { Deletion }
-    requires search { IsSearch d arena.now (with_value cell.now label.0 label.1) label.0 label.2.0 }
-    requires forced { option_map edge_of forced ≡ (record_at arena.now.now label.2.0).forced }
+    requires { IsSearch d arena.now (with_value cell.now label.0 label.1) label.0 label.2.0 }
     ensures found { IsNumberOfCell arena.now.now (option_map number result)
         (closure_in (source_before d) (with_value cell.now label.0 label.1)) }
     ensures there { IfSome result (λ node. IsSome (map.get arena.now.now node.0)) }
     ensures steps { steps.new ≤ steps.old + 2 * length cell.now }
 {
-    let (dim, code, target) = label;
+    let (dim, _, target) = label;
     let dims = cell.dims();
-    let next = dim + 1;
-    if next == dims {
-        return Some(target);
+    let mut node = target;
+    'dims: for next in dim + 1..dims {
+        node = step(arena, node, next, cell.get(next), steps)?;
     }
-    let node = step_with_forced(arena, target, forced, next, cell.get(next), steps)?;
-    find_after(arena, cell, (dim, code, node), next, steps)
+    Some(node)
 }
 
 /// The node of the prefix before a class's last dimension of Any. Goes up from the class's node

@@ -7,9 +7,9 @@ ghost use Rattle.cube_defs.specs.Cell.{cell_prefix, with_value};
 ghost use Rattle.cube_laws.specs.Parts.{IsLastAny};
 ghost use Rattle.aggregates.specs.Views.{agg_in};
 ghost use Rattle.cube_defs.specs.Tree.{cell_at};
-ghost use Rattle.qc_arena.specs.RecordReaders.{edge_of, record_at};
+ghost use Rattle.qc_arena.specs.RecordReaders.{number, record_at};
 ghost use Rattle.cube_laws.specs.Total.{join_aggs, join_cells};
-ghost use Rattle.tree_search.specs.Found.{IsTree, closure_in};
+ghost use Rattle.tree_search.specs.Found.{IsNumberOfCell, closure_in};
 ghost use Rattle.batch_delete.specs.declared.generalizing.NodeCell.{NodeCell};
 ghost use Rattle.batch_delete.specs.Generalizing.{AreGeneralizing};
 ghost use Rattle.batch_delete.specs.DeletedRow.{ArePartOf, ArePartsPlanned, CanSettle, HasFound, HasOwnPart, IsKnown, IsLastPartPlanned, IsPartLabel, IsPrefixNode};
@@ -20,15 +20,16 @@ use crate::cells::{has, last_any};
 use crate::deleted_row::{Class, DeletedRow, class_at_node};
 use crate::generalizing::NodeCell;
 use crate::labels::first_label;
-use crate::partial_search::{find_after, find_from, prefix_node};
+use crate::partial_search::{find_from, prefix_node};
 use crate::plan::{NodePlan, copied, planned_rest};
+use crate::searches::{SEARCHES, Searches, searches_at};
 use crate::stays::settled;
 use crate::subtracting::combined;
 use aggregates::Agg;
 use cell_core::{Cell, Code, Entry, NodeNo, Steps, meet_into};
 use cube_defs::MAX_ROWS;
 use indexmap::IndexMap;
-use qc_arena::{Forced, Nodes, QcArena};
+use qc_arena::{Nodes, QcArena};
 use std::sync::ledger::Ledger;
 use tree_search::upper_into;
 
@@ -115,25 +116,26 @@ fn own_part<'a, L: Ledger>(
     let Some(target) = arena.edge(front, dim, code, steps) else {
         return None;
     };
-    let Some(node) = find_after(arena, class.cell, (dim, code, target), dim, steps) else {
+    let Some(node) = find_from(arena, class.cell, (dim, code, target), steps) else {
         return None;
     };
     planned_rest(plan, node)
 }
 
 // Joins the rows of a label to the rest. The label's value isn't the tuple's. Gives whether the
-// label has any rows of the class. `forced` is the forced child of the label's target.
+// label has any rows of the class. `found` is what the search for the label has found.
 fn with_part<L: Ledger>(
     arena: &QcArena,
     cell: &Cell,
     label: (u8, Code, NodeNo),
-    forced: Option<Forced>,
+    found: Option<NodeNo>,
     rest: &mut Option<Rest>,
     steps: &mut Steps<L>,
 ) -> bool
     ghost d: { Deletion }
-    requires label { IsPartLabel d arena.now cell.now label.0 label.1 label.2.0 }
-    requires forced { option_map edge_of forced ≡ (record_at arena.now.now label.2.0).forced }
+    requires label { IsPartLabel d arena.now cell.now label.0 label.1 }
+    requires found { IsNumberOfCell arena.now.now (option_map number found)
+        (closure_in (source_before d) (with_value cell.now label.0 label.1)) }
     requires few { (part : _)
         → IsRest d.measures (rows_before d) (with_value cell.now label.0 label.1) (Some part) →
         IfSome rest.old (λ some. some.agg.count + part.agg.count ≤ MAX_ROWS) }
@@ -143,9 +145,9 @@ fn with_part<L: Ledger>(
         → IsTotal d cell.now label.0 v w vs rest.old →
         IsTotal d cell.now label.0 v w (vs ++ label.1 ∷ []) rest.new }
     ensures same { result ≡ false → rest.new ≡ rest.old }
-    ensures steps { steps.new ≤ steps.old + (4 * length cell.now + 3) }
+    ensures steps { steps.new ≤ steps.old + (2 * length cell.now + 3) }
 {
-    let Some(node) = find_from(arena, cell, label, forced, steps) else {
+    let Some(node) = found else {
         return false;
     };
     let (dim, code, _) = label;
@@ -161,20 +163,20 @@ fn with_part<L: Ledger>(
 }
 
 // Joins the rows of a label to the rest, unless the label has the tuple's value. Gives whether the
-// rest has more rows. `forced` is the forced child of the label's target.
+// rest has more rows. `found` is what the search for the label has found.
 fn with_label<L: Ledger>(
     class: &Class<'_>,
     label: (u8, Code, NodeNo),
-    forced: Option<Forced>,
+    found: Option<NodeNo>,
     rest: &mut Option<Rest>,
     steps: &mut Steps<L>,
 ) -> bool
     ghost d: { Deletion }
     requires class { IsKnown d class.now }
-    requires label { IsPartLabel d class.now.row.now.arena.now class.now.cell.now label.0 label.1
-        label.2.0 }
-    requires forced { option_map edge_of forced
-        ≡ (record_at class.now.row.now.arena.now.now label.2.0).forced }
+    requires label { IsPartLabel d class.now.row.now.arena.now class.now.cell.now label.0
+        label.1 }
+    requires found { IsNumberOfCell class.now.row.now.arena.now.now (option_map number found)
+        (closure_in (source_before d) (with_value class.now.cell.now label.0 label.1)) }
     requires few { is_value (slice_index_or class.now.row.now.tuple.now label.0 None) label.1
         ≡ false → (part : _) →
         IsRest d.measures (rows_before d) (with_value class.now.cell.now label.0 label.1)
@@ -193,7 +195,7 @@ fn with_label<L: Ledger>(
         } ∷ [])) rest.new }
     ensures same { result ≡ false → rest.new ≡ rest.old }
     ensures steps { (v : ℕ) → slice_index_or class.now.row.now.tuple.now label.0 None ≡ Some v →
-        steps.new ≤ steps.old + (4 * length class.now.cell.now + 3) * length
+        steps.new ≤ steps.old + (2 * length class.now.cell.now + 3) * length
         (other_values label.0 v (record {
           dim = label.0;
           value = label.1;
@@ -204,7 +206,7 @@ fn with_label<L: Ledger>(
     if has(class.row.tuple, label.0, label.1) {
         return false;
     }
-    with_part(class.row.arena, class.cell, label, forced, rest, steps)
+    with_part(class.row.arena, class.cell, label, found, rest, steps)
 }
 
 // The rest of a class, if some of its rows settle it. The same rows aren't asked twice.
@@ -219,29 +221,6 @@ fn settled_by_more(class: &Class<'_>, some: &Option<Rest>, are_more: bool) -> Op
     } else {
         None
     }
-}
-
-// The forced child of the target of a node's label. It is read before the label's turn, so that the
-// processor fetches it during the search for the label before. None at the end of the labels.
-fn forced_ahead<L: Ledger>(
-    arena: &QcArena,
-    front: NodeNo,
-    k: u32,
-    end: u32,
-    steps: &mut Steps<L>,
-) -> Option<Forced>
-    requires tree { IsTree arena.now.width arena.now.now }
-    requires front { IsSome (map.get arena.now.now front.0) }
-    requires end { end ≡ length (record_at arena.now.now front.0).edges }
-    ensures forced { (x : _) → slice_get (record_at arena.now.now front.0).edges k ≡ Some x
-        → option_map edge_of result ≡ (record_at arena.now.now x.target).forced }
-    ensures steps { steps.new ≤ steps.old + 2 }
-{
-    if k >= end {
-        return None;
-    }
-    let (_, _, target) = arena.edge_at(front, k, steps);
-    arena.forced(target, steps)
 }
 
 // The rest of a class. It begins with the rows that have the tuple's value in the dimension. Then
@@ -271,7 +250,11 @@ fn with_labels<L: Ledger>(
     let mut all = copied(own);
     let mut are_more = false;
     let first = first_label(arena, front, dim, steps);
-    let mut ahead = forced_ahead(arena, front, first, end, steps);
+    let mut searches = Searches {
+        from: first,
+        until: first,
+        nodes: [None; SEARCHES as usize],
+    };
     'labels: for k in first..end {
         let label = arena.edge_at(front, k, steps);
         if label.0 != dim {
@@ -281,9 +264,9 @@ fn with_labels<L: Ledger>(
             Some(done) => return Some(done),
             None => {}
         }
-        let forced = ahead;
-        ahead = forced_ahead(arena, front, k + 1, end, steps);
-        are_more = with_label(class, label, forced, &mut all, steps);
+        searches = searches_at(class, dim, front, k, searches, steps);
+        let found = searches.nodes[(k - searches.from) as usize];
+        are_more = with_label(class, label, found, &mut all, steps);
     }
     all
 }

@@ -1,4 +1,4 @@
 use Rattle.batch_delete.proofs.parts.own_part.Given as goal
 
-abbrev pub ghost-find_after : goal.ghost-find_after
-ghost-find_after g a = g.d
+abbrev pub ghost-find_from : goal.ghost-find_from
+ghost-find_from g a = g.d

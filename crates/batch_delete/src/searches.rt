@@ -1,0 +1,189 @@
+// Searches for the labels of a node in one dimension, some of them side by side.
+ghost use Rattle.std.specs.FinMap as map;
+ghost use Rattle.std.specs.Option.{option_map};
+ghost use Rattle.std.specs.Prelude.{IsSome, None, Some, length, slice_get, slice_index_or, ℕ, ◌*◌, ◌+◌, ◌-◌, ◌<◌, ◌≡◌, ◌≤◌};
+ghost use Rattle.cell_core.specs.Entry.{value_in};
+ghost use Rattle.cube_defs.specs.Cell.{with_value};
+ghost use Rattle.qc_arena.specs.RecordReaders.{number, record_at};
+ghost use Rattle.tree_search.specs.Found.{IsNumberOfCell, closure_in};
+ghost use Rattle.batch_delete.specs.DeletedRow.{IsPrefixNode};
+ghost use Rattle.batch_delete.specs.Rests.{Deletion, source_before};
+ghost use Rattle.batch_delete.specs.Searching.{AreFound, stepped, target_in};
+
+use crate::deleted_row::Class;
+use cell_core::{Entry, NodeNo, Steps};
+use qc_arena::{Nodes, QcArena};
+use std::sync::ledger::Ledger;
+use tree_search::step;
+
+/// So many searches go on side by side. What they read is far apart in memory, so the processor
+/// fetches it for all of them at the same time.
+pub(crate) const SEARCHES: u32 = 4;
+
+/// The nodes found for some labels in a row. The labels are those from a place on, until another.
+#[derive(Clone, Copy)]
+pub(crate) struct Searches {
+    pub from: u32,
+    pub until: u32,
+    pub nodes: [Option<NodeNo>; SEARCHES as usize],
+}
+
+// One dimension of a search. None if the search has found before that no row is left.
+fn step_on<L: Ledger>(
+    arena: &QcArena,
+    node: Option<NodeNo>,
+    dim: u8,
+    asked: Entry,
+    steps: &mut Steps<L>,
+) -> Option<NodeNo>
+    requires { (q : _) → node ≡ Some q → IsSome (map.get arena.now.now q.0) }
+    ensures value { option_map number result
+        ≡ stepped arena.now.now dim (value_in asked) (option_map number node) }
+    ensures steps { steps.new ≤ steps.old + 2 }
+{
+    match node {
+        None => None,
+        Some(node) => step(arena, node, dim, asked, steps),
+    }
+}
+
+// One dimension of the first searches, of which there are so many.
+fn step_all<L: Ledger>(
+    arena: &QcArena,
+    nodes: &mut [Option<NodeNo>; SEARCHES as usize],
+    many: u32,
+    dim: u8,
+    asked: Entry,
+    steps: &mut Steps<L>,
+)
+    requires many { many ≤ SEARCHES }
+    requires there { (k : ℕ) (q : _) → k < many → slice_index_or nodes.old k None ≡ Some q
+        → IsSome (map.get arena.now.now q.0) }
+    ensures stepped { (k : ℕ) → k < many → option_map number (slice_index_or nodes.new k None)
+        ≡ stepped arena.now.now dim (value_in asked)
+        (option_map number (slice_index_or nodes.old k None)) }
+    ensures steps { steps.new ≤ steps.old + 2 * many }
+{
+    'searches: for k in 0..many as usize {
+        nodes[k] = step_on(arena, nodes[k], dim, asked, steps);
+    }
+}
+
+// The target of a label, if the label is in the dimension.
+fn target_at<L: Ledger>(
+    arena: &QcArena,
+    front: NodeNo,
+    k: u32,
+    dim: u8,
+    steps: &mut Steps<L>,
+) -> Option<NodeNo>
+    requires front { IsSome (map.get arena.now.now front.0) }
+    requires k { k < length (record_at arena.now.now front.0).edges }
+    ensures value { (x : _) → slice_get (record_at arena.now.now front.0).edges k ≡ Some x
+        → option_map number result ≡ target_in dim x }
+    ensures steps { steps.new ≤ steps.old + 1 }
+{
+    let (at, _, target) = arena.edge_at(front, k, steps);
+    if at == dim { Some(target) } else { None }
+}
+
+// The targets of the labels from a place on, until another. None for a label of another dimension.
+fn targets<L: Ledger>(
+    arena: &QcArena,
+    front: NodeNo,
+    from: u32,
+    until: u32,
+    dim: u8,
+    steps: &mut Steps<L>,
+) -> [Option<NodeNo>; SEARCHES as usize]
+    requires front { IsSome (map.get arena.now.now front.0) }
+    requires until { until ≤ length (record_at arena.now.now front.0).edges }
+    requires from { from ≤ until }
+    requires many { until ≤ from + SEARCHES }
+    ensures targets { (k : ℕ) (x : _) → from + k < until
+        → slice_get (record_at arena.now.now front.0).edges (from + k) ≡ Some x
+        → option_map number (slice_index_or result k None) ≡ target_in dim x }
+    ensures steps { steps.new ≤ steps.old + (until - from) }
+{
+    let mut nodes = [None; SEARCHES as usize];
+    'labels: for k in from..until {
+        nodes[(k - from) as usize] = target_at(arena, front, k, dim, steps);
+    }
+    nodes
+}
+
+// Searches for the parts of a class by the labels from a place on, until another. `front` is the
+// node of the class's prefix before the dimension.
+fn find_some<L: Ledger>(
+    class: &Class<'_>,
+    dim: u8,
+    front: NodeNo,
+    from: u32,
+    until: u32,
+    steps: &mut Steps<L>,
+) -> Searches
+    ghost d: { Deletion }
+    requires front { IsPrefixNode d class.now dim front.0 }
+    requires until { until ≤ length (record_at class.now.row.now.arena.now.now front.0).edges }
+    requires from { from ≤ until }
+    requires many { until ≤ from + SEARCHES }
+    ensures from { result.from ≡ from }
+    ensures until { result.until ≡ until }
+    ensures found { AreFound d class.now.row.now.arena.now.now class.now.cell.now dim
+        (record_at class.now.row.now.arena.now.now front.0).edges result }
+    ensures steps { steps.new + (until - from)
+        ≤ steps.old + 2 * length class.now.cell.now * (until - from) }
+{
+    let arena = class.row.arena;
+    let dims = class.cell.dims();
+    let mut nodes = targets(arena, front, from, until, dim, steps);
+    'dims: for next in dim + 1..dims {
+        step_all(
+            arena,
+            &mut nodes,
+            until - from,
+            next,
+            class.cell.get(next),
+            steps,
+        );
+    }
+    Searches { from, until, nodes }
+}
+
+/// The searches for labels of which one is at a place. They are those from before, unless the place
+/// is after all of these.
+pub(crate) fn searches_at<L: Ledger>(
+    class: &Class<'_>,
+    dim: u8,
+    front: NodeNo,
+    k: u32,
+    before: Searches,
+    steps: &mut Steps<L>,
+) -> Searches
+    ghost d: { Deletion }
+    requires front { IsPrefixNode d class.now dim front.0 }
+    requires k { k < length (record_at class.now.row.now.arena.now.now front.0).edges }
+    requires from { before.from ≤ k }
+    requires until { k ≤ before.until }
+    requires many { before.until ≤ before.from + SEARCHES }
+    requires within { before.until
+        ≤ length (record_at class.now.row.now.arena.now.now front.0).edges }
+    requires found { AreFound d class.now.row.now.arena.now.now class.now.cell.now dim
+        (record_at class.now.row.now.arena.now.now front.0).edges before }
+    ensures from { result.from ≤ k }
+    ensures until { k < result.until }
+    ensures many { result.until ≤ result.from + SEARCHES }
+    ensures within { result.until
+        ≤ length (record_at class.now.row.now.arena.now.now front.0).edges }
+    ensures found { AreFound d class.now.row.now.arena.now.now class.now.cell.now dim
+        (record_at class.now.row.now.arena.now.now front.0).edges result }
+    ensures steps { steps.new + 2 * length class.now.cell.now * before.until
+        ≤ steps.old + 2 * length class.now.cell.now * result.until }
+{
+    if k < before.until {
+        return before;
+    }
+    let left = class.row.arena.edge_count(front, steps) - k;
+    let many = if left < SEARCHES { left } else { SEARCHES };
+    find_some(class, dim, front, k, k + many, steps)
+}
