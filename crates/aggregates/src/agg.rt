@@ -32,13 +32,13 @@ impl Agg {
         ensures aggregate { agg_in result ≡ agg_of_row amounts.now }
         ensures measures { result.measures ≡ length amounts.now }
     {
-        let mut parts = [ZERO; MAX_MEASURES as usize];
-        set_parts(&mut parts, amounts);
-        Agg {
+        let mut agg = Agg {
+            parts: [ZERO; MAX_MEASURES as usize],
             count: 1,
             measures: amounts.len() as u8,
-            parts,
-        }
+        };
+        set_parts(&mut agg.parts, amounts);
+        agg
     }
 
     /// Adds one row with these amounts.

@@ -85,6 +85,10 @@ pub(crate) fn lowest(num: i64, den: u64) -> Ratio
     ensures { ratio_in result ≡ lowest_terms num den }
 {
     let divisor = greatest_common_divisor(num.unsigned_abs(), den);
+    // Divisions are slow, and many values are in lowest terms already.
+    if divisor == 1 {
+        return Ratio { num, den };
+    }
     Ratio {
         num: divided(num, divisor),
         den: den / divisor,
