@@ -1,5 +1,5 @@
 -- The parts of classes, as a class moves to another node.
-use Rattle.std.proofs.Common.{◌≡◌, ◌≢◌, ◌∙◌, ℕ, Option, IsSome, ap, is_some, length, sym}
+use Rattle.std.proofs.Common.{◌≡◌, ◌≢◌, ◌∙◌, ℕ, Option, IsSome, length, sym}
 use Rattle.std.specs.Prelude.{IfSome}
 use Rattle.std.specs.Option.{option_map}
 use Rattle.slab.specs.Slab as slots
@@ -11,11 +11,6 @@ use Rattle.qc_arena.specs.Map.{Known, with_class}
 use Rattle.qc_arena.specs.Parts.{HasRoom, IsStored, shown}
 use Rattle.qc_arena.proofs.SlotMaps.{some_slot}
 use Rattle.qc_arena.proofs.Stored.{class_of, put_stored}
-use Rattle.qc_arena.proofs.TotalsSteps.{some_map}
-
--- a node that changes is still there
-pub still_there : (f : Known → Known) (o p : Option Known) → p ≡ option_map f o → IsSome o → IsSome p
-still_there f o p e h = ap is_some e ∙ sym (some_map f o) ∙ h
 
 -- a node gets another class, whose parts are written
 pub class_stored : (s t : slots.Slab (Option Known)) (p r : MeasureColumns) (k : ℕ) (class : Option Agg) → IsStored s p

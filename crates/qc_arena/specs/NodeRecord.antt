@@ -1,16 +1,10 @@
 -- What a record that is kept of a node means, and what holds of it.
-use Rattle.std.specs.Prelude.{◌≡◌, ◌≢◌, ℕ, ◌<◌, ◌≤◌, List, [], ◌∷◌, true, Option, Some, None, length, nat_eq, replicate, if◌then◌else◌}
-use Rattle.std.specs.List.{list_all}
+use Rattle.std.specs.Prelude.{◌≡◌, ℕ, ◌<◌, List, [], ◌∷◌, Option, Some, None, length, nat_eq, replicate, if◌then◌else◌}
 use Rattle.cube_defs.specs.Cell.{Cell, with_value}
-use Rattle.cube_defs.specs.Tree.{Edge}
 use Rattle.cube_defs.specs.Rows as defs
 use Rattle.aggregates.specs.declared.agg.Agg.{Agg}
 use Rattle.aggregates.specs.Views.{agg_in}
-use Rattle.tree_laws.specs.Walk.{last_label}
-use Rattle.qc_arena.specs.declared.edges.StoredEdge.{StoredEdge}
-use Rattle.qc_arena.specs.Edges.{edges_to, is_small, rises}
 use Rattle.cube_defs.specs.declared.limits.TheConstants.{MAX_MEASURES}
-use Rattle.cell_core.specs.Entry.{IsCode}
 
 -- a cell with the values of some labels
 abbrev pub with_labels : Cell ℕ → List (ℕ × ℕ) → Cell ℕ
@@ -38,10 +32,6 @@ label_in dim code = if nat_eq dim 255 then None else Some (dim, code)
 abbrev pub parent_in : ℕ → ℕ → Option ℕ
 parent_in dim parent = if nat_eq dim 255 then None else Some parent
 
-abbrev pub forced_in : ℕ → ℕ → ℕ → Option (Edge ℕ ℕ)
-forced_in dim code child = if nat_eq code 4294967295 then None
-    else Some (record { dim = dim; value = code; target = child })
-
 -- the class that is noted, if one is
 abbrev pub class_on : List (ℕ × Agg) → Option defs.Agg
 class_on [] = None
@@ -52,16 +42,3 @@ abbrev pub IsHeading : List (ℕ × Agg) → ℕ → ℕ → Type 0
 IsHeading [] count measures = count ≡ 0
 IsHeading (e ∷ rest) count measures = (count ≡ e.1.count) × (measures ≡ e.1.measures)
     × (length e.1.parts ≡ MAX_MEASURES)
-
--- the last label is that of the trail, the heading that of the class, labels rise, and codes are small
-pub record IsNodeRecord (trail : List (ℕ × ℕ)) (noted : List (ℕ × Agg)) (dim code forced_code count measures : ℕ)
-    (edges : List StoredEdge) : Type 0 where
-  pub heading : IsHeading noted count measures
-  pub end : last_label (cell_on trail) ≡ label_in dim code
-  pub small_end : IsCode code
-  pub small_forced : forced_code ≢ 4294967295 → IsCode forced_code
-  pub few_dims : length (cell_on trail) ≤ 255
-  pub begun : trail ≢ []
-  pub within : IsTrail trail
-  pub rising : rises (edges_to edges) ≡ true
-  pub small_edges : list_all is_small (edges_to edges) ≡ true

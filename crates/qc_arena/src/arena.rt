@@ -20,25 +20,20 @@ ghost use Rattle.qc_arena.specs.Resized.{resized};
 use crate::Memory;
 use crate::class_changes::changed;
 use crate::class_numbers::numbers_of_classes;
-use crate::counted::{record_in, tree_edges_of};
+use crate::counted::tree_edges_of;
 use crate::edges::PlainEdge;
 use crate::handing::{hand_down_at, take_back_at};
 use crate::images::Images;
-use crate::measure_columns::MeasureColumns;
+use crate::kept_record::KeptRecord;
+use crate::node_store::NodeStore;
 use crate::nodes::{Forced, Nodes};
-use crate::place::NodeSlot;
-use crate::records::NodeRecord;
-use crate::slots::{
-    add_record, class_at, copy_at, drop_edge_at, free_places, kill_at, record_of, reserve_edges_at,
-    resize_all, restore_all, set_class_at, set_edge_at, set_forced_at,
-};
+use crate::slots::{add_record, free_places, resize_all, restore_all};
 use crate::touched::Touched;
 use crate::tree_totals::{Counts, TreeTotals};
 use crate::unsorted_images::UnsortedImages;
 use aggregates::Agg;
 use cell_core::{Code, NodeNo, Steps};
 use cube_defs::{MAX_DIMS, MAX_NODES};
-use slab::Slab;
 use std::alloc::Global;
 use std::marker::Model;
 use std::mem::replace;
@@ -62,8 +57,7 @@ pub enum ArenaRefused {
 /// before-image. So a rollback takes no memory.
 #[derive(Drop)]
 pub struct QcArena {
-    nodes: Slab<NodeSlot>,
-    parts: MeasureColumns,
+    nodes: NodeStore,
     images: Touched,
     last: UnsortedImages,
     is_open: bool,
@@ -75,7 +69,6 @@ pub struct QcArena {
 
 impl Model for QcArena {
     ghost use Rattle.qc_arena.specs.Inside.{IsArena, begun, now_of, touched_in, was_of};
-    ghost use Rattle.qc_arena.specs.Parts.{IsStored};
     ghost use Rattle.qc_arena.specs.Map.{Arena, arena_code};
 
     ghost Value = { Arena };
@@ -91,8 +84,7 @@ impl Model for QcArena {
       last = a.last;
     } };
 
-    ghost invariant = { λ a. IsArena a.dims a.max a.nodes a.images a.is_open a.kept a.was
-        × IsStored a.nodes a.parts };
+    ghost invariant = { λ a. IsArena a.dims a.max a.nodes a.images a.is_open a.kept a.was };
 }
 
 impl QcArena {
@@ -111,20 +103,12 @@ impl QcArena {
             classes: 0,
             edges: 0,
         };
-        let parts = match MeasureColumns::with_room(alloc, FIRST_ROOM) {
-            Ok(parts) => parts,
-            Err(error) => return Err(error),
-        };
-        let nodes = match Slab::with_capacity(alloc, FIRST_ROOM) {
+        let nodes = match NodeStore::with_room(alloc, FIRST_ROOM) {
             Ok(nodes) => nodes,
-            Err(error) => {
-                drop(parts);
-                return Err(error);
-            }
+            Err(error) => return Err(error),
         };
         Ok(QcArena {
             nodes,
-            parts,
             images: Touched::new(alloc),
             last: UnsortedImages::none(alloc),
             is_open: false,
@@ -187,15 +171,13 @@ impl QcArena {
     }
 
     // The record of a node to be added.
-    fn new_rec(&self, under: Option<(NodeNo, u8, Code)>) -> NodeRecord
+    fn new_rec(&self, under: Option<(NodeNo, u8, Code)>) -> KeptRecord
         requires { IsPlace self.now.width self.now.now under }
         ensures { result.node ≡ new_record self.now.width self.now.now under }
     {
         match under {
-            None => NodeRecord::root(self.images.allocator(), self.dims),
-            Some((node, dim, code)) => record_of(&self.nodes, node.0 as usize).child(
-                node, dim, code,
-            ),
+            None => KeptRecord::root(self.dims),
+            Some((node, dim, code)) => self.nodes.child_of(node.0, dim, code),
         }
     }
 
@@ -227,7 +209,7 @@ impl QcArena {
             return Err(ArenaRefused::Full);
         }
         let new = self.new_rec(under);
-        match add_record(&mut self.nodes, &mut self.parts, &mut self.images, new) {
+        match add_record(&mut self.nodes, &mut self.images, new) {
             Ok(node) => {
                 self.kept = self.kept.with_node(under, node);
                 Ok(NodeNo(node))
@@ -252,7 +234,7 @@ impl QcArena {
             return Ok(());
         }
         let alloc = self.images.allocator();
-        match copy_at(alloc, &self.nodes, &self.parts, node.0) {
+        match self.nodes.copy(alloc, node.0) {
             Ok(image) => self.images.add_was(node.0, image),
             Err(error) => Err(error),
         }
@@ -263,7 +245,7 @@ impl QcArena {
         requires { IsSome (map.get self.old.now node.0) }
         ensures { self.new ≡ self.old }
     {
-        reserve_edges_at(&mut self.nodes, node.0, more)
+        self.nodes.reserve_edges(node.0, more)
     }
 
     /// Adds an edge with this label, or gives the edge that has the label a new target.
@@ -294,7 +276,7 @@ impl QcArena {
             code,
             target: target.0,
         };
-        match set_edge_at(&mut self.nodes, node.0, edge) {
+        match self.nodes.set_edge(node.0, edge) {
             Ok((had, has)) => {
                 self.kept = self.kept.with_edges(had, has);
                 Ok(())
@@ -314,7 +296,7 @@ impl QcArena {
         ensures steps { steps.new ≡ steps.old + 1 }
     {
         steps.tick();
-        let (had, has) = drop_edge_at(&mut self.nodes, node.0, dim, code);
+        let (had, has) = self.nodes.drop_edge(node.0, dim, code);
         self.kept = self.kept.with_edges(had, has);
     }
 
@@ -329,7 +311,7 @@ impl QcArena {
         ensures steps { steps.new ≡ steps.old + 1 }
     {
         steps.tick();
-        let (is_class, had) = kill_at(&mut self.nodes, node.0);
+        let (is_class, had) = self.nodes.kill(node.0);
         self.kept = self.kept.without_node(node.0, is_class, had);
     }
 
@@ -338,10 +320,10 @@ impl QcArena {
         ensures some { IfSome result (λ k. (k.0 ≡ place) × IsSome (map.get self.now.now place)) }
         ensures none { IfNone result (map.get self.now.now place ≡ None) }
     {
-        match record_in(&self.nodes, place) {
-            Some(_) => Some(NodeNo(place as u32)),
-            None => None,
+        if self.nodes.has(place) {
+            return Some(NodeNo(place as u32));
         }
+        None
     }
 
     // Removes the node at a place, if there is one.
@@ -396,7 +378,7 @@ impl QcArena {
         ensures steps { steps.new ≡ steps.old + 1 }
     {
         steps.tick();
-        set_forced_at(&mut self.nodes, node.0, forced);
+        self.nodes.set_forced(node.0, forced);
     }
 
     /// Sets the aggregate of the node's class, or marks the node as no class.
@@ -410,9 +392,8 @@ impl QcArena {
         ensures steps { steps.new ≡ steps.old + 1 }
     {
         steps.tick();
-        let had = record_of(&self.nodes, node.0 as usize).is_class();
-        self.parts.put_class(node.0, &class);
-        set_class_at(&mut self.nodes, node.0, class);
+        let had = self.nodes.is_class(node.0);
+        self.nodes.set_class(node.0, class);
         self.kept = self.kept.with_class(had, class.is_some());
     }
 
@@ -437,7 +418,7 @@ impl QcArena {
         ensures steps { steps.new ≡ steps.old + 1 }
     {
         steps.tick();
-        match hand_down_at(&mut self.nodes, &mut self.parts, node.0, dim) {
+        match hand_down_at(&mut self.nodes, node.0, dim) {
             Ok(handed) => {
                 let under = Some((node, dim, 0));
                 let more = self.kept.with_node(under, handed.child);
@@ -459,10 +440,10 @@ impl QcArena {
         ensures steps { steps.new ≡ steps.old + 1 }
     {
         steps.tick();
-        let Some(node) = self.record(child).parent() else {
+        let Some(node) = self.nodes.parent(child.0) else {
             unreachable!()
         };
-        let back = take_back_at(&mut self.nodes, &mut self.parts, node.0, child.0, dim);
+        let back = take_back_at(&mut self.nodes, node.0, child.0, dim);
         let less = self
             .kept
             .without_node(child.0, back.child_is_class, back.child_edges);
@@ -502,7 +483,7 @@ impl QcArena {
         ensures max { self.new.max ≡ self.old.max }
         ensures last { self.new.last ≡ self.old.last }
     {
-        restore_all(&mut self.nodes, &mut self.parts, &mut self.images);
+        restore_all(&mut self.nodes, &mut self.images);
         self.is_open = false;
         self.kept = self.was;
     }
@@ -528,7 +509,7 @@ impl QcArena {
     pub fn has(&self, node: NodeNo) -> bool
         ensures { result ≡ map.contains_key self.now.now node.0 }
     {
-        record_in(&self.nodes, node.0 as usize).is_some()
+        self.nodes.has(node.0 as usize)
     }
 
     // The number of places. Each node's number is smaller.
@@ -553,7 +534,7 @@ impl QcArena {
         ensures { IfOk result (λ pairs. AreNew (class_was self.now)
             (class_now self.now) pairs.items) }
     {
-        changed(alloc, &self.nodes, &self.parts, &self.images, true)
+        changed(alloc, &self.nodes, &self.images, true)
     }
 
     /// The pairs of node and aggregate that were there at `begin` and are not now, each once. A
@@ -563,7 +544,7 @@ impl QcArena {
         ensures { IfOk result (λ pairs. AreNew (class_now self.now)
             (class_was self.now) pairs.items) }
     {
-        changed(alloc, &self.nodes, &self.parts, &self.images, false)
+        changed(alloc, &self.nodes, &self.images, false)
     }
 
     /// The numbers of all classes, rising. Takes a step for each node, and passes over numbers
@@ -625,16 +606,6 @@ impl QcArena {
     }
 }
 
-impl QcArena {
-    // The record of a node.
-    fn record(&self, node: NodeNo) -> &NodeRecord
-        requires { IsSome (map.get self.now.now node.0) }
-        ensures { result.now.node ≡ record_at self.now.now node.0 }
-    {
-        record_of(&self.nodes, node.0 as usize)
-    }
-}
-
 impl Nodes for QcArena {
     ghost width = { λ a. a.width };
 
@@ -651,17 +622,17 @@ impl Nodes for QcArena {
 
     fn end_of<L: Ledger>(&self, node: NodeNo, steps: &mut Steps<L>) -> Option<(u8, Code)> {
         steps.tick();
-        self.record(node).end_of()
+        self.nodes.end_of(node.0)
     }
 
     fn parent<L: Ledger>(&self, node: NodeNo, steps: &mut Steps<L>) -> Option<NodeNo> {
         steps.tick();
-        self.record(node).parent()
+        self.nodes.parent(node.0)
     }
 
     fn forced<L: Ledger>(&self, node: NodeNo, steps: &mut Steps<L>) -> Option<Forced> {
         steps.tick();
-        self.record(node).forced()
+        self.nodes.forced(node.0)
     }
 
     fn edge<L: Ledger>(
@@ -672,21 +643,21 @@ impl Nodes for QcArena {
         steps: &mut Steps<L>,
     ) -> Option<NodeNo> {
         steps.tick();
-        self.record(node).edge(dim, code)
+        self.nodes.edge(node.0, dim, code)
     }
 
     fn edge_count<L: Ledger>(&self, node: NodeNo, steps: &mut Steps<L>) -> u32 {
         steps.tick();
-        self.record(node).edge_count()
+        self.nodes.edge_count(node.0)
     }
 
     fn edge_at<L: Ledger>(&self, node: NodeNo, k: u32, steps: &mut Steps<L>) -> (u8, Code, NodeNo) {
         steps.tick();
-        self.record(node).edge_at(k)
+        self.nodes.edge_at(node.0, k)
     }
 
     fn class<L: Ledger>(&self, node: NodeNo, steps: &mut Steps<L>) -> Option<Agg> {
         steps.tick();
-        class_at(&self.nodes, &self.parts, node.0)
+        self.nodes.class(node.0)
     }
 }

@@ -7,56 +7,43 @@ ghost use Rattle.slab.specs.Slab as slots;
 ghost use Rattle.qc_arena.specs.Entries.{IsOnce};
 ghost use Rattle.qc_arena.specs.Changes.{AddsNew, AreNew, class_in, class_on_side, count_in, from_side, to_side};
 ghost use Rattle.qc_arena.specs.Inside.{image_or, join};
-ghost use Rattle.qc_arena.specs.Parts.{IsStored};
 
 use crate::Memory;
-use crate::counted::record_in;
 use crate::image::Record;
-use crate::measure_columns::MeasureColumns;
-use crate::place::NodeSlot;
+use crate::node_store::NodeStore;
 use crate::same::same_agg;
-use crate::slots::class_at;
 use crate::touched::Touched;
 use aggregates::Agg;
 use cell_core::NodeNo;
-use slab::Slab;
 use std::alloc::Global;
 
 // The class of a place, if it has one.
-fn class_in_place(nodes: &Slab<NodeSlot>, parts: &MeasureColumns, place: u32) -> Option<Agg>
-    requires { IsStored nodes.now parts.now }
+fn class_in_place(nodes: &NodeStore, place: u32) -> Option<Agg>
     ensures { option_map agg_in result ≡ class_in (join (slots.get nodes.now place)) }
 {
-    match record_in(nodes, place as usize) {
-        Some(_) => class_at(nodes, parts, place),
-        None => None,
+    if nodes.has(place as usize) {
+        return nodes.class(place);
     }
+    None
 }
 
 // COUNT of the class of a place. 0 if it has none.
-fn count_in_place(nodes: &Slab<NodeSlot>, place: u32) -> u32
+fn count_in_place(nodes: &NodeStore, place: u32) -> u32
     ensures { result ≡ count_in (class_in (join (slots.get nodes.now place))) }
 {
-    match record_in(nodes, place as usize) {
-        Some(record) => record.count(),
-        None => 0,
+    if nodes.has(place as usize) {
+        return nodes.count(place);
     }
+    0
 }
 
 // The class of a touched node, if it has one: now, or in its before-image.
-fn class_on_side(
-    nodes: &Slab<NodeSlot>,
-    parts: &MeasureColumns,
-    node: u32,
-    was: Option<&Record>,
-    now: bool,
-) -> Option<Agg>
-    requires { IsStored nodes.now parts.now }
+fn class_on_side(nodes: &NodeStore, node: u32, was: Option<&Record>, now: bool) -> Option<Agg>
     ensures { option_map agg_in result
         ≡ class_on_side (option_copied was.entry) (join (slots.get nodes.now node)) now }
 {
     if now {
-        return class_in_place(nodes, parts, node);
+        return class_in_place(nodes, node);
     }
     match was {
         Some(record) => record.class(),
@@ -65,7 +52,7 @@ fn class_on_side(
 }
 
 // COUNT of the class of a touched node: now, or in its before-image. 0 if it has none.
-fn count_on_side(nodes: &Slab<NodeSlot>, node: u32, was: Option<&Record>, now: bool) -> u32
+fn count_on_side(nodes: &NodeStore, node: u32, was: Option<&Record>, now: bool) -> u32
     ensures { result
         ≡ count_in (class_on_side (option_copied was.entry) (join (slots.get nodes.now node)) now) }
 {
@@ -80,15 +67,7 @@ fn count_on_side(nodes: &Slab<NodeSlot>, node: u32, was: Option<&Record>, now: b
 
 // Whether this is the class of a touched node: now, or in its before-image. Equal classes have one
 // COUNT. So the other class is built only if its COUNT is this one.
-fn is_on_side(
-    class: &Agg,
-    nodes: &Slab<NodeSlot>,
-    parts: &MeasureColumns,
-    node: u32,
-    was: Option<&Record>,
-    now: bool,
-) -> bool
-    requires { IsStored nodes.now parts.now }
+fn is_on_side(class: &Agg, nodes: &NodeStore, node: u32, was: Option<&Record>, now: bool) -> bool
     ensures same { result ≡ true →
         class_on_side (option_copied was.entry) (join (slots.get nodes.now node)) now
         ≡ Some (agg_in class.now) }
@@ -99,7 +78,7 @@ fn is_on_side(
     if count_on_side(nodes, node, was, now) != class.count {
         return false;
     }
-    match class_on_side(nodes, parts, node, was, now) {
+    match class_on_side(nodes, node, was, now) {
         Some(other) => same_agg(&other, class),
         None => false,
     }
@@ -109,14 +88,12 @@ fn is_on_side(
 // removed classes, before and now are the other way round. There is room for the pair.
 fn add_new(
     pairs: &mut Vec<(NodeNo, Agg)>,
-    nodes: &Slab<NodeSlot>,
-    parts: &MeasureColumns,
+    nodes: &NodeStore,
     node: u32,
     was: Option<&Record>,
     added: bool,
 )
     requires room { length pairs.old.items < vec_capacity pairs.old }
-    requires stored { IsStored nodes.now parts.now }
     ensures adds { AddsNew node
         (class_on_side (option_copied was.entry) (join (slots.get nodes.now node)) (not added))
         (class_on_side (option_copied was.entry) (join (slots.get nodes.now node)) added)
@@ -124,10 +101,10 @@ fn add_new(
     ensures few { length pairs.new.items ≤ length pairs.old.items + 1 }
     ensures room { vec_capacity pairs.new ≡ vec_capacity pairs.old }
 {
-    match class_on_side(nodes, parts, node, was, added) {
+    match class_on_side(nodes, node, was, added) {
         None => {}
         Some(agg) => {
-            if !is_on_side(&agg, nodes, parts, node, was, !added) {
+            if !is_on_side(&agg, nodes, node, was, !added) {
                 pairs.push_reserved((NodeNo(node), agg));
             }
         }
@@ -151,12 +128,10 @@ fn count_of(images: &Touched, added: bool) -> usize
 /// The pairs of node and aggregate that were added since `begin`, or those that were removed.
 pub(crate) fn changed(
     alloc: Global,
-    nodes: &Slab<NodeSlot>,
-    parts: &MeasureColumns,
+    nodes: &NodeStore,
     images: &Touched,
     added: bool,
 ) -> Result<Vec<(NodeNo, Agg)>, Memory>
-    requires { IsStored nodes.now parts.now }
     ensures { IfOk result (λ pairs. AreNew
         (from_side added (λ q. class_in (image_or nodes.now images.now q))
         (λ q. class_in (join (slots.get nodes.now q))))
@@ -170,7 +145,7 @@ pub(crate) fn changed(
     };
     'images: for k in 0..count {
         let (node, was) = images.at(k);
-        add_new(&mut pairs, nodes, parts, node, was, added);
+        add_new(&mut pairs, nodes, node, was, added);
     }
     Ok(pairs)
 }

@@ -9,26 +9,23 @@ ghost use Rattle.qc_arena.specs.Changes.{AreClassNumbers, class_in};
 ghost use Rattle.qc_arena.specs.Inside.{join, now_of};
 
 use crate::Memory;
-use crate::counted::record_in;
-use crate::place::NodeSlot;
+use crate::node_store::NodeStore;
 use cell_core::{NodeNo, Steps};
-use slab::Slab;
 use std::alloc::Global;
 use std::sync::ledger::Ledger;
 
 // Whether the node at a place is a class. Takes a step if there is a node.
-fn is_class_at<L: Ledger>(nodes: &Slab<NodeSlot>, place: usize, steps: &mut Steps<L>) -> bool
+fn is_class_at<L: Ledger>(nodes: &NodeStore, place: usize, steps: &mut Steps<L>) -> bool
+    requires { IsSome (join (slots.get nodes.now place)) → place < 4294967296 }
     ensures value { result ≡ is_some (class_in (join (slots.get nodes.now place))) }
     ensures steps { steps.new ≡ steps.old
         + (if is_some (join (slots.get nodes.now place)) then 1 else 0) }
 {
-    match record_in(nodes, place) {
-        None => false,
-        Some(node) => {
-            steps.tick();
-            node.is_class()
-        }
+    if !nodes.has(place) {
+        return false;
     }
+    steps.tick();
+    nodes.is_class(place as u32)
 }
 
 // Appends the number of a place, if its node is a class. There is room for it.
@@ -47,7 +44,7 @@ fn add_number(numbers: &mut Vec<NodeNo>, place: usize, is_class: bool)
 /// The numbers of all classes, rising. Takes a step for each node.
 pub(crate) fn numbers_of_classes<L: Ledger>(
     alloc: Global,
-    nodes: &Slab<NodeSlot>,
+    nodes: &NodeStore,
     classes: u32,
     steps: &mut Steps<L>,
 ) -> Result<Vec<NodeNo>, Memory>

@@ -11,8 +11,8 @@ use Rattle.qc_arena.specs.Resized.{resized}
 use Rattle.qc_arena.proofs.SlotMaps.{no_slot}
 use Rattle.qc_arena.proofs.slots.resize_all.Goals as goal
 
-pub resize_at-requires-clause-deep : goal.resize_at-requires-clause-deep
-resize_at-requires-clause-deep c =
+pub set_width-requires-clause-deep : goal.set_width-requires-clause-deep
+set_width-requires-clause-deep c =
     subst (λ (o : Option (Option Known)). IfSome (join o) (λ n. depth n.cell ≤ c.args.dims))
     (sym (c.places.invariant.rest c.places.place (omega arith))) (c.requires.deep c.places.place)
 
@@ -20,20 +20,20 @@ pub places-preserved : goal.places-preserved
 places-preserved c =
     let i = c.places.invariant in
     let k = c.places.place in
-    let new = c.resize_at.new.nodes in
+    let new = c.set_width.new.self in
     let f : Option (Option Known) → Option Known = λ o. option_map (resized c.args.dims) (join o) in
     record {
       none_killed = λ q. elim (eqb_tells q k) [
-        | inl e ↦ subst (λ (n : ℕ). slots.get new n ≢ Some None) (sym e.1) c.resize_at.ensures.none_killed
-        | inr e ↦ subst (λ (o : Option (Option Known)). o ≢ Some None) (sym (c.resize_at.ensures.others q e.1))
+        | inl e ↦ subst (λ (n : ℕ). slots.get new n ≢ Some None) (sym e.1) c.set_width.ensures.none_killed
+        | inr e ↦ subst (λ (o : Option (Option Known)). o ≢ Some None) (sym (c.set_width.ensures.others q e.1))
             (i.none_killed q)
       ];
       done = λ q h. elim (eqb_tells q k) [
-        | inl e ↦ ap (λ (n : ℕ). join (slots.get new n)) e.1 ∙ c.resize_at.ensures.here ∙ ap f (i.rest k (omega arith))
+        | inl e ↦ ap (λ (n : ℕ). join (slots.get new n)) e.1 ∙ c.set_width.ensures.here ∙ ap f (i.rest k (omega arith))
             ∙ ap (λ (n : ℕ). f (slots.get c.args.nodes.now n)) (sym e.1)
-        | inr e ↦ ap join (c.resize_at.ensures.others q e.1) ∙ i.done q (omega (arith, h, e.1))
+        | inr e ↦ ap join (c.set_width.ensures.others q e.1) ∙ i.done q (omega (arith, h, e.1))
       ];
-      rest = λ q h. c.resize_at.ensures.others q (omega (arith, h)) ∙ i.rest q (omega (arith, h));
+      rest = λ q h. c.set_width.ensures.others q (omega (arith, h)) ∙ i.rest q (omega (arith, h));
     }
 
 pub returns-clause-nodes : goal.returns-clause-nodes

@@ -24,7 +24,6 @@ images-preserved c =
         c.images.invariant.killed q,
         c.put_image.ensures.here,
       );
-      stored = c.put_image.ensures.stored;
       same = λ q.
           back_same (image_at c.images.images) (image_at c.pop.new.self) (slots.get c.images.nodes)
           (slots.get c.put_image.new.nodes) k c.in-Some.image

@@ -13,7 +13,7 @@ use Rattle.qc_arena.proofs.arena.QcArena.class_numbers.Goals as goal
 
 pub numbers_of_classes-requires-clause-small : goal.numbers_of_classes-requires-clause-small
 numbers_of_classes-requires-clause-small g c = λ q h.
-    (c.self.invariant.0.is_kept.counted q (record_or (join (slots.get c.self.inside.nodes q)))
+    (c.self.invariant.is_kept.counted q (record_or (join (slots.get c.self.inside.nodes q)))
     (get_now c.self.inside.nodes q ∙ is_record (join (slots.get c.self.inside.nodes q)) h)).number
 
 pub returns-clause-numbers : goal.returns-clause-numbers

@@ -10,13 +10,12 @@ use Rattle.qc_arena.proofs.ArenaSteps.{no_killed, resized_arena, resized_seen, s
 use Rattle.qc_arena.proofs.Imaged.{is_begun}
 use Rattle.qc_arena.proofs.SizedMaps.{if_cell}
 use Rattle.qc_arena.proofs.SlotMaps.{get_now, there}
-use Rattle.qc_arena.proofs.Stored.{resized_stored}
 use Rattle.qc_arena.proofs.arena.QcArena.narrow.Goals as goal
 
 pub resize_all-requires-clause-none_killed : goal.resize_all-requires-clause-none_killed
 resize_all-requires-clause-none_killed c =
     let m = c.self.inside in
-    no_killed m.nodes m.images m.is_open c.self.invariant.0.in_slots
+    no_killed m.nodes m.images m.is_open c.self.invariant.in_slots
     (sym (is_begun m.is_open m.dims (was_of (now_of m.nodes) m.images)) ∙ ap is_open c.self.view_is ∙ c.requires.closed)
 
 pub resize_all-requires-clause-deep : goal.resize_all-requires-clause-deep
@@ -32,19 +31,16 @@ resize_all-requires-clause-deep c = λ q.
 pub invariant_of-self : goal.invariant_of-self
 invariant_of-self c =
     let m = c.self.inside in
-    let is = c.self.invariant.0 in
+    let is = c.self.invariant in
     let shut = sym (is_begun m.is_open m.dims (was_of (now_of m.nodes) m.images)) ∙ ap is_open c.self.view_is
     ∙ c.requires.closed in
     let wide = ap (λ (v : Arena). v.width) c.self.view_is in
-    let few = is.few_dims in (
-      resized_arena m.dims (m.dims - 1) m.max m.nodes c.resize_all.new.nodes m.images m.is_open m.kept m.was is shut
-          (omega arith) (λ q x e.
-          let low = shallow_cell c.args.self.now c.requires.free q x
-          (ap (λ (v : Arena). cell_at v.now q) (sym c.self.view_is) ∙ e) in
-          omega (arith, low, wide)) c.resize_all.ensures.nodes c.resize_all.ensures.none_killed,
-      resized_stored (m.dims - 1) m.nodes c.resize_all.new.nodes m.parts c.self.invariant.1 c.resize_all.ensures.nodes
-          c.resize_all.ensures.none_killed,
-    )
+    let few = is.few_dims in
+    resized_arena m.dims (m.dims - 1) m.max m.nodes c.resize_all.new.nodes m.images m.is_open m.kept m.was is shut
+    (omega arith) (λ q x e.
+    let low = shallow_cell c.args.self.now c.requires.free q x
+    (ap (λ (v : Arena). cell_at v.now q) (sym c.self.view_is) ∙ e) in
+    omega (arith, low, wide)) c.resize_all.ensures.nodes c.resize_all.ensures.none_killed
 
 pub returns-clause-value : goal.returns-clause-value
 returns-clause-value c =

@@ -1,0 +1,29 @@
+use Rattle.std.proofs.Common.{◌∙◌, Option, ap, refl}
+use Rattle.std.specs.Option.{option_map}
+use Rattle.slab.specs.Slab as slots
+use Rattle.aggregates.specs.Views.{agg_in}
+use Rattle.qc_arena.specs.Inside.{join}
+use Rattle.qc_arena.specs.KeptSlot.{Kept}
+use Rattle.qc_arena.specs.Map.{Known, with_class}
+use Rattle.qc_arena.specs.Records.{nodes_of}
+use Rattle.qc_arena.proofs.Listed.{join_by, kept_by, kept_listed, kept_others}
+use Rattle.qc_arena.proofs.record_store.RecordStore.set_class.Goals as goal
+
+pub invariant_of-self : goal.invariant_of-self
+invariant_of-self c =
+    kept_listed c.self.inside.records c.self.inside.lists c.self.invariant c.args.node c.index_mut.result.now
+    c.set_class.new.self c.index_mut.ensures.value (ap (λ (h : Kept). h.place) c.set_class.ensures)
+
+pub returns-clause-here : goal.returns-clause-here
+returns-clause-here c =
+    let by = kept_by c.self.inside.records c.self.inside.lists c.self.invariant c.args.node c.index_mut.result.now
+    c.set_class.new.self c.index_mut.ensures.value (ap (λ (h : Kept). h.place) c.set_class.ensures)
+    (with_class (option_map agg_in c.args.class)) c.set_class.ensures (λ es n. refl) (λ n. refl) in
+    join_by (with_class (option_map agg_in c.args.class)) _ (slots.get (nodes_of c.self.inside.records c.self.inside.lists) c.args.node) by
+    ∙ ap (λ (s : slots.Slab (Option Known)). option_map (with_class (option_map agg_in c.args.class)) (join (slots.get s c.args.node))) c.self.view_is
+
+pub returns-clause-others : goal.returns-clause-others
+returns-clause-others c q n =
+    kept_others c.self.inside.records c.self.inside.lists c.self.invariant c.args.node c.index_mut.result.now
+    c.set_class.new.self c.index_mut.ensures.value (ap (λ (h : Kept). h.place) c.set_class.ensures) q n
+    ∙ ap (λ (s : slots.Slab (Option Known)). slots.get s q) c.self.view_is
