@@ -17,6 +17,8 @@ use Rattle.qc_arena.specs.RecordReaders.{record_at}
 use Rattle.tree_laws.proofs.CallerLemmas.{some_same, there}
 use Rattle.tree_search.specs.Found.{IsTreeOf, closure_in}
 use Rattle.tree_search.proofs.CallerLemmas.{total_some}
+use Rattle.batch_delete.specs.declared.deleted_row.DeletedRow.{DeletedRow}
+use Rattle.batch_delete.specs.DeletedRow.{IsDeletedRow}
 use Rattle.batch_delete.specs.Rests.{Deletion, rows_after, rows_before, source_before}
 use Rattle.batch_delete.proofs.Counted.{counted, counted_at, fewer_left}
 use Rattle.batch_delete.proofs.Labelled.{law}
@@ -142,6 +144,21 @@ left d u t up own whole gone others e f less told =
       o.3
           ∙ ap (λ a. join_aggs (agg_at (eq_by_cmp nat_cmp) d.measures (rows_after d) t) (Some a)) (sym is),
     )
+
+-- so it is by what is known of the row
+pub left_of : (d : Deletion) (row : DeletedRow) (u : Cell ℕ) (whole gone others : counts.Agg) → IsDeletedRow d row
+    → covers (eq_by_cmp nat_cmp) u d.r ≡ true
+    → Some (agg_in whole) ≡ agg_at (eq_by_cmp nat_cmp) d.measures (rows_before d) u
+    → row.all ≡ Some gone → gone.count < whole.count
+    → ((o : Agg) → length o.parts ≡ length (agg_in gone).parts → combine (agg_in gone) o ≡ agg_in whole
+    → agg_in others ≡ o)
+    → (length (agg_in others).parts ≡ d.measures)
+    × (agg_at (eq_by_cmp nat_cmp) d.measures (rows_after d) u
+    ≡ join_aggs (agg_at (eq_by_cmp nat_cmp) d.measures (rows_after d) row.tuple.now) (Some (agg_in others)))
+left_of d row u whole gone others is below e all less told =
+    let t = row.tuple.now in
+    let up = subst (λ t. leq (eq_by_cmp nat_cmp) u t ≡ true) (sym is.tuple) below in
+    left d u t up (tuple_closes d t is.tuple).0 whole gone others e (sym (ap (option_map agg_in) all) ∙ is.all) less told
 
 pub twins_long : (d : Deletion) (t : Cell ℕ) (a : Agg) → agg_at (eq_by_cmp nat_cmp) d.measures (rows_after d) t ≡ Some a
     → length a.parts ≡ d.measures

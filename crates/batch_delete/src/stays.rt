@@ -7,7 +7,7 @@ ghost use Rattle.batch_delete.specs.Rests.{Deletion, IsRest, rows_after};
 use crate::cells::has;
 use crate::deleted_row::Class;
 use crate::parts::Rest;
-use crate::subtracting::agg_without_row;
+use crate::subtracting::{agg_without_row, are_told};
 use aggregates::Agg;
 use cell_core::{Cell, Entry};
 
@@ -72,27 +72,31 @@ pub(crate) fn settled(class: &Class<'_>, some: Option<&Rest>) -> Option<Rest>
     ensures rest { IfSome result
         (λ rest. IsRest d.measures (rows_after d) class.now.cell.now (Some rest)) }
 {
-    match some {
-        None => None,
-        Some(rest) => {
-            if are_all_but_one(rest, &class.whole) {
-                return Some(rest.copy());
-            }
-            let shared = Shared {
-                tuple: class.row.tuple,
-                cell: class.cell,
-                values: &rest.shared,
-            };
-            if !is_settled(&shared) {
-                return None;
-            }
-            match agg_without_row(class.row, class.cell, &class.whole) {
-                None => None,
-                Some(agg) => Some(Rest {
-                    shared: class.cell.copy(),
-                    agg,
-                }),
-            }
-        }
+    let Some(rest) = some else {
+        return None;
+    };
+    if are_all_but_one(rest, &class.whole) {
+        return Some(rest.copy());
     }
+    let shared = Shared {
+        tuple: class.row.tuple,
+        cell: class.cell,
+        values: &rest.shared,
+    };
+    if !is_settled(&shared) {
+        return None;
+    }
+    let Some(whole) = &class.whole else {
+        return None;
+    };
+    let Some(gone) = &class.row.all else {
+        return None;
+    };
+    if !are_told(whole, gone) {
+        return None;
+    }
+    Some(Rest {
+        shared: class.cell.copy(),
+        agg: agg_without_row(class.row, class.cell, whole, gone),
+    })
 }

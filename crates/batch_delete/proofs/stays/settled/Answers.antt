@@ -14,19 +14,18 @@ use Rattle.batch_delete.proofs.Labelled.{law}
 use Rattle.batch_delete.proofs.Settled.{class_stays}
 use Rattle.batch_delete.proofs.stays.settled.Goals as goal
 
-pub returns-in-Some-agg_without_row : goal.returns-in-Some-agg_without_row
-returns-in-Some-agg_without_row g c =
+pub returns : goal.returns
+returns g c =
     let a = c.args.class.now.row.now.arena.now in
     let u = c.args.class.now.cell.now in
     let above = (some_of (λ (rest : Rest). MaySettle g.d u rest) (option_copied c.args.some) c.in-Some.rest.now
     (ap option_copied c.in-Some.is)
     c.requires.rest).above in
-    let agg = c.in-Some-agg_without_row.ensures.agg in
     let stays = class_stays a.width a.now g.d c.requires.known.gone.tree u c.in-Some.rest.now.shared c.requires.known.long
     c.requires.known.is.below c.requires.known.is.own above (λ k v any has.
     (slice_get-cell_of g.d.r.tuple k v).0 (ap (λ (c : Cell ℕ). slice_get c k) (sym c.requires.known.gone.tuple)
     ∙ c.is_settled.ensures c.if-not-is_settled.false k v any has)) in
-    record { rest = record { cells = ap (λ c. Some c) c.copy-in-Some-agg_without_row.ensures.value ∙ sym stays; aggs = agg } }
+    record { rest = record { cells = ap (λ c. Some c) c.copy-2.ensures.value ∙ sym stays; aggs = c.agg_without_row.ensures } }
 
 pub returns-then-are_all_but_one : goal.returns-then-are_all_but_one
 returns-then-are_all_but_one g c =

@@ -9,4 +9,5 @@ invariant-parts l = record {
   small : (j : ℕ) → j < l.k → nat_abs (at l.parts j).sum ≤ l.count * MAX_AMOUNT;
   others : (j : ℕ) → l.k ≤ j → at l.parts j ≡ at l.whole.parts j;
   four : length l.parts ≡ 4;
+  as_many : length l.part.parts ≡ 4;
 }
