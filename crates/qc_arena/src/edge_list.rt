@@ -46,7 +46,7 @@ impl EdgeList {
         }
     }
 
-    // One edge. Takes no memory, since two edges fit into the list itself.
+    // One edge. Takes no memory, since five edges fit into the list itself.
     pub(crate) fn one(alloc: Global, edge: PlainEdge) -> EdgeList
         requires { IsCode edge.code }
         ensures { result ≡ edge_in edge ∷ [] }

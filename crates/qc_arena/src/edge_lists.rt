@@ -12,7 +12,7 @@ use cell_core::Code;
 use std::alloc::Global;
 use std::marker::Model;
 
-const _: () = prove!(size_of::<Option<EdgeList>>() == 40);
+const _: () = prove!(size_of::<Option<EdgeList>>() == 64);
 
 /// Lists of edges by place. A place that is free is given out again. A place has 32 bits.
 #[derive(Drop)]
