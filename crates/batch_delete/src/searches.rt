@@ -67,8 +67,8 @@ fn forced_of_all<L: Ledger>(
     forced
 }
 
-// One dimension of a search, whose node's forced child was read before. None if the search has found
-// before that no row is left.
+// One dimension of a search, whose node's forced child was read before. None if the search has
+// found before that no row is left.
 fn step_on<L: Ledger>(
     arena: &QcArena,
     node: Option<NodeNo>,

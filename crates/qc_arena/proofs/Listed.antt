@@ -1,5 +1,6 @@
 -- Records and the lists of their edges, as a record changes.
-use Rattle.std.proofs.Common.{Bool, true, false, [], ◌∷◌, zero, suc, true≢false, ◌≡◌, ◌≢◌, ◌⊎◌, ◌∙◌, ◌+◌, ◌<◌, ◌≤◌, ℕ, List, Option, None, Some, ap, arith, cond, get_or, is_some, length, refl, subst, sym, inl, inr}
+use Rattle.std.proofs.Common.{Bool, true, false, [], ◌∷◌, zero, suc, true≢false, ◌≡◌, ◌≢◌, ◌⊎◌, ◌∙◌, ◌+◌, ◌<◌, ◌≤◌}
+use Rattle.std.proofs.Common.{ℕ, List, Option, None, Some, ap, arith, cond, get_or, is_some, length, refl, subst, sym, inl, inr}
 use Rattle.std.specs.Prelude.{IfSome, IsSome}
 use Rattle.std.specs.List.{count_by}
 use Rattle.std.specs.Option.{option_map}
@@ -26,7 +27,8 @@ abbrev pub bit : Option ℕ → ℕ
 bit place = cond (is_some place) 1 0
 
 -- one record changes, and no list but its own
-pub record Changed (s s' : slots.Slab Kept) (lists lists' : slots.Slab (List (Edge ℕ ℕ))) (q : ℕ) (h h' : Kept) : Type 0 where
+pub record Changed (s s' : slots.Slab Kept) (lists lists' : slots.Slab (List (Edge ℕ ℕ))) (q : ℕ)
+    (h h' : Kept) : Type 0 where
   pub was : slots.get s q ≡ Some h
   pub now : slots.get s' q ≡ Some h'
   pub others : (r : ℕ) → r ≢ q → slots.get s' r ≡ slots.get s r
@@ -257,7 +259,8 @@ module _ (s : slots.Slab Kept) (lists : slots.Slab (List (Edge ℕ ℕ))) (are :
   pub own_by : (f : Known → Known) → h.place ≡ None → h' ≡ record h { node = f h.node }
       → slots.get (nodes_of (slots.with_value s q h') lists) q
       ≡ option_map (option_map f) (slots.get (nodes_of s lists) q)
-  own_by f none e = becomes s lists q h value f (slots.with_value s q h') lists h' kept_here (node_own s lists q h value f h' none e)
+  own_by f none e = becomes s lists q h value f (slots.with_value s q h') lists h' kept_here
+      (node_own s lists q h value f h' none e)
 
 -- the edges of a record go to a list
 module _ (s : slots.Slab Kept) (lists lists' : slots.Slab (List (Edge ℕ ℕ))) (are : AreListed s lists) (q place : ℕ)

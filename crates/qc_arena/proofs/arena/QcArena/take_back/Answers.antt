@@ -43,7 +43,8 @@ pub take_back_at-back-requires-clause-node : goal.take_back_at-back-requires-cla
 take_back_at-back-requires-clause-node g c =
     let m = c.self.inside in
     let now = ap (λ (v : Arena). v.now) c.self.view_is in
-    let is_child = named_parent c.args.self.now.now c.args.child.0 c.parent.result c.in-Some.node (record_or (join (slots.get m.nodes c.args.child.0)))
+    let is_child = named_parent c.args.self.now.now c.args.child.0 c.parent.result c.in-Some.node (record_or (join
+    (slots.get m.nodes c.args.child.0)))
     c.in-Some.is c.parent.ensures (sym (record_seen m.nodes c.args.child.0 now)) c.requires.child in
     in_slot m.nodes c.in-Some.node.0 now is_child.above
 
@@ -51,7 +52,8 @@ pub take_back_at-back-requires-clause-apart : goal.take_back_at-back-requires-cl
 take_back_at-back-requires-clause-apart g c =
     let m = c.self.inside in
     let now = ap (λ (v : Arena). v.now) c.self.view_is in
-    let is_child = named_parent c.args.self.now.now c.args.child.0 c.parent.result c.in-Some.node (record_or (join (slots.get m.nodes c.args.child.0)))
+    let is_child = named_parent c.args.self.now.now c.args.child.0 c.parent.result c.in-Some.node (record_or (join
+    (slots.get m.nodes c.args.child.0)))
     c.in-Some.is c.parent.ensures (sym (record_seen m.nodes c.args.child.0 now)) c.requires.child in
     is_child.apart
 
@@ -91,7 +93,8 @@ pub with_class-moved-requires-clause-room : goal.with_class-moved-requires-claus
 with_class-moved-requires-clause-room g c =
     let m = c.self.inside in
     let now = ap (λ (v : Arena). v.now) c.self.view_is in
-    let is_child = named_parent c.args.self.now.now c.args.child.0 c.parent.result c.in-Some.node (record_or (join (slots.get m.nodes c.args.child.0)))
+    let is_child = named_parent c.args.self.now.now c.args.child.0 c.parent.result c.in-Some.node (record_or (join
+    (slots.get m.nodes c.args.child.0)))
     c.in-Some.is c.parent.ensures (sym (record_seen m.nodes c.args.child.0 now)) c.requires.child in
     let k = c.args.child.0 in
     let heir = record_or (join (slots.get m.nodes k)) in
@@ -112,7 +115,8 @@ pub with_class-moved-requires-clause-had : goal.with_class-moved-requires-clause
 with_class-moved-requires-clause-had g c =
     let m = c.self.inside in
     let now = ap (λ (v : Arena). v.now) c.self.view_is in
-    let is_child = named_parent c.args.self.now.now c.args.child.0 c.parent.result c.in-Some.node (record_or (join (slots.get m.nodes c.args.child.0)))
+    let is_child = named_parent c.args.self.now.now c.args.child.0 c.parent.result c.in-Some.node (record_or (join
+    (slots.get m.nodes c.args.child.0)))
     c.in-Some.is c.parent.ensures (sym (record_seen m.nodes c.args.child.0 now)) c.requires.child in
     let k = c.args.child.0 in
     let heir = record_or (join (slots.get m.nodes k)) in
@@ -135,7 +139,8 @@ pub with_edges-self-inside-requires-clause-had : goal.with_edges-self-inside-req
 with_edges-self-inside-requires-clause-had g c =
     let m = c.self.inside in
     let now = ap (λ (v : Arena). v.now) c.self.view_is in
-    let is_child = named_parent c.args.self.now.now c.args.child.0 c.parent.result c.in-Some.node (record_or (join (slots.get m.nodes c.args.child.0)))
+    let is_child = named_parent c.args.self.now.now c.args.child.0 c.parent.result c.in-Some.node (record_or (join
+    (slots.get m.nodes c.args.child.0)))
     c.in-Some.is c.parent.ensures (sym (record_seen m.nodes c.args.child.0 now)) c.requires.child in
     let k = c.args.child.0 in
     let heir = record_or (join (slots.get m.nodes k)) in
@@ -156,7 +161,8 @@ pub with_edges-self-inside-requires-clause-room : goal.with_edges-self-inside-re
 with_edges-self-inside-requires-clause-room g c =
     let m = c.self.inside in
     let now = ap (λ (v : Arena). v.now) c.self.view_is in
-    let is_child = named_parent c.args.self.now.now c.args.child.0 c.parent.result c.in-Some.node (record_or (join (slots.get m.nodes c.args.child.0)))
+    let is_child = named_parent c.args.self.now.now c.args.child.0 c.parent.result c.in-Some.node (record_or (join
+    (slots.get m.nodes c.args.child.0)))
     c.in-Some.is c.parent.ensures (sym (record_seen m.nodes c.args.child.0 now)) c.requires.child in
     let k = c.args.child.0 in
     let heir = record_or (join (slots.get m.nodes k)) in
@@ -177,7 +183,8 @@ pub invariant_of-self : goal.invariant_of-self
 invariant_of-self g c =
     let m = c.self.inside in
     let now = ap (λ (v : Arena). v.now) c.self.view_is in
-    let is_child = named_parent c.args.self.now.now c.args.child.0 c.parent.result c.in-Some.node (record_or (join (slots.get m.nodes c.args.child.0)))
+    let is_child = named_parent c.args.self.now.now c.args.child.0 c.parent.result c.in-Some.node (record_or (join
+    (slots.get m.nodes c.args.child.0)))
     c.in-Some.is c.parent.ensures (sym (record_seen m.nodes c.args.child.0 now)) c.requires.child in
     let k = c.args.child.0 in
     let heir = record_or (join (slots.get m.nodes k)) in
@@ -216,7 +223,8 @@ pub returns-clause-back : goal.returns-clause-back
 returns-clause-back g c =
     let m = c.self.inside in
     let now = ap (λ (v : Arena). v.now) c.self.view_is in
-    let is_child = named_parent c.args.self.now.now c.args.child.0 c.parent.result c.in-Some.node (record_or (join (slots.get m.nodes c.args.child.0)))
+    let is_child = named_parent c.args.self.now.now c.args.child.0 c.parent.result c.in-Some.node (record_or (join
+    (slots.get m.nodes c.args.child.0)))
     c.in-Some.is c.parent.ensures (sym (record_seen m.nodes c.args.child.0 now)) c.requires.child in
     let p = c.in-Some.node.0 in
     let back = c.take_back_at-back.ensures in
