@@ -1,7 +1,7 @@
 -- Records and the lists of their edges, as a record changes.
 use Rattle.std.proofs.Common.{Bool, true, false, [], ◌∷◌, zero, suc, true≢false, ◌≡◌, ◌≢◌, ◌⊎◌, ◌∙◌, ◌+◌, ◌<◌, ◌≤◌}
 use Rattle.std.proofs.Common.{ℕ, List, Option, None, Some, ap, arith, cond, get_or, is_some, length, refl, subst, sym, inl, inr}
-use Rattle.std.specs.Prelude.{IfSome, IsSome}
+use Rattle.std.specs.Prelude.{IfSome, IsSome, slice_get}
 use Rattle.std.specs.List.{count_by}
 use Rattle.std.specs.Option.{option_map}
 use Rattle.std.proofs.lemmas.Bool.Decides.{eqb_tells}
@@ -11,6 +11,7 @@ use Rattle.slab.specs.Slab as slots
 use Rattle.slab.proofs.SlabLemmas.{ContainsKey-within, Updates-with_value}
 use Rattle.cube_defs.specs.Tree.{Edge}
 use Rattle.qc_arena.specs.EdgeLists.{list_at, list_in}
+use Rattle.qc_arena.specs.Edges.{put_edge, with_edge}
 use Rattle.qc_arena.specs.Inside.{join}
 use Rattle.qc_arena.specs.KeptSlot.{Kept, with_edges}
 use Rattle.qc_arena.specs.Map.{Known}
@@ -322,6 +323,37 @@ module _ (s : slots.Slab Kept) (lists lists' : slots.Slab (List (Edge ℕ ℕ)))
   pub list_others : (r : ℕ) → r ≢ q → slots.get (nodes_of s lists') r ≡ slots.get (nodes_of s lists) r
   list_others = changed_others s s lists lists' q h h list_is_changed are
 
+-- the same where the record is known by its node
+pub taken_others : (s : slots.Slab Kept) (lists lists' : slots.Slab (List (Edge ℕ ℕ))) → AreListed s lists
+    → (q place : ℕ) → IsSome (join (slots.get (nodes_of s lists) q))
+    → IfSome (slots.get s q) (λ h. h.place ≡ Some place)
+    → ((p : ℕ) → p ≢ place → slots.get lists' p ≡ slots.get lists p)
+    → ((p : ℕ) → is_some (slots.get lists' p) ≡ is_some (slots.get lists p))
+    → slots.slab_len lists' ≡ slots.slab_len lists → lists'.capacity ≡ lists.capacity
+    → (r : ℕ) → r ≢ q → slots.get (nodes_of s lists') r ≡ slots.get (nodes_of s lists) r
+taken_others s lists lists' are q place node some others there len room =
+    go (slots.get s q) refl (subst (λ (o : Option (Option Known)). IsSome (join o)) (get-nodes s lists q) node) some
+  where
+    go : (o : Option Kept) → slots.get s q ≡ o → IsSome (join (option_map (node_of lists) o))
+        → IfSome o (λ h. h.place ≡ Some place)
+        → (r : ℕ) → r ≢ q → slots.get (nodes_of s lists') r ≡ slots.get (nodes_of s lists) r
+    go None e h p = absurd (true≢false (sym h))
+    go (Some h) e t p = list_others s lists lists' are q place h e p others there len room
+
+-- a node without edges gets its first one
+pub first_given : (o : Option (Option Known)) (list : List (Edge ℕ ℕ)) (e : Edge ℕ ℕ) → (record_or (join o)).edges ≡ []
+    → length list ≡ 1 → slice_get list 0 ≡ Some e
+    → option_map (option_map (with_edge e)) o ≡ option_map (option_map (with_edges list)) o
+first_given None list e none one is = refl
+first_given (Some None) list e none one is = refl
+first_given (Some (Some n)) list e none one is = ap (λ (es : List (Edge ℕ ℕ)). Some (Some (with_edges es n)))
+    (ap (λ (es : List (Edge ℕ ℕ)). put_edge e es) none ∙ sym (only list one is))
+  where
+    only : (list : List (Edge ℕ ℕ)) → length list ≡ 1 → slice_get list 0 ≡ Some e → list ≡ e ∷ []
+    only [] one is = absurd (cc)
+    only (x ∷ []) one is = cc
+    only (x ∷ y ∷ xs) one is = absurd (omega (arith, one))
+
 -- at most each record has a list
 bit_few : (o : Option ℕ) → bit o ≤ 1
 bit_few None = omega arith
@@ -480,3 +512,15 @@ pub node_alive : (lists : slots.Slab (List (Edge ℕ ℕ))) (h : Kept) → h.is_
     → node_of lists h ≡ Some (with_edges (edges_from lists h.place h.node.edges) h.node)
 node_alive lists h e =
     ap (λ (b : Bool). cond b None (Some (with_edges (edges_from lists h.place h.node.edges) h.node))) e
+
+-- a record without edges is written over one without a list
+pub bare_here : (s : slots.Slab Kept) (lists : slots.Slab (List (Edge ℕ ℕ))) → AreListed s lists → (q : ℕ) (h h' : Kept)
+    (n : Known) → slots.get s q ≡ Some h → IfSome (slots.get s q) (λ h. h.place ≡ None) → h'.place ≡ None
+    → h'.is_killed ≡ false → h'.node ≡ with_edges [] n
+    → slots.get (nodes_of (slots.with_value s q h') lists) q ≡ Some (Some (with_edges [] n))
+bare_here s lists are q h h' n value unlisted none alive node =
+    kept_here s lists are q h h' value
+    (none ∙ sym (subst (λ (o : Option Kept). IfSome o (λ h. h.place ≡ None)) value unlisted))
+    ∙ ap (λ (o : Option Known). Some o) (node_alive lists h' alive
+    ∙ ap (λ (o : Option ℕ). Some (with_edges (edges_from lists o h'.node.edges) h'.node)) none
+    ∙ ap (λ (k : Known). Some (with_edges k.edges k)) node)

@@ -29,7 +29,7 @@ use std::alloc::{AllocError, Global};
 use std::marker::Model;
 
 /// The records of nodes by number, with their edges. Up to one edge lies in the record itself. More
-/// edges lie in a list elsewhere. So a record is small, and a search meets fewer pages.
+/// edges lie in a list elsewhere. So a record is small, and most nodes need no list.
 #[derive(Drop)]
 pub(crate) struct RecordStore {
     records: Slab<KeptRecord>,
@@ -198,6 +198,31 @@ fn put_at(
     }
 }
 
+// Gives edges to a record that has none. Up to one edge lies in the record, if it can.
+fn give_edges(records: &mut Slab<KeptRecord>, lists: &mut EdgeLists, node: u32, list: EdgeList)
+    requires node { IsSome (join (slots.get (nodes_of records.old lists.old) node)) }
+    requires none { (record_or
+        (join (slots.get (nodes_of records.old lists.old) node))).edges ≡ [] }
+    requires unlisted { IfSome (slots.get records.old node) (λ h. h.place ≡ None) }
+    requires listed { AreListed records.old lists.old }
+    ensures listed { AreListed records.new lists.new }
+    ensures here { slots.get (nodes_of records.new lists.new) node
+        ≡ option_map (option_map (with_edges list))
+        (slots.get (nodes_of records.old lists.old) node) }
+    ensures others { (q : ℕ) → q ≢ node → slots.get (nodes_of records.new lists.new) q
+        ≡ slots.get (nodes_of records.old lists.old) q }
+{
+    match list.count() {
+        0 => {}
+        1 => {
+            let (dim, code, child) = list.at(0);
+            let target = child.0;
+            put_own(records, lists, node, PlainEdge { dim, code, target });
+        }
+        _ => store_list(records, lists, node, list),
+    }
+}
+
 // Makes room for so many edges of a record that has no list. One edge needs none.
 fn reserve_own(
     records: &mut Slab<KeptRecord>,
@@ -265,6 +290,37 @@ fn take_own(kept: &mut KeptRecord, dim: u8, code: Code) -> (u32, u32)
     (1, 1)
 }
 
+// Removes the edge with a label from the list of a record, if there is one. A list that is empty
+// then goes. Gives the number of edges before and after.
+fn take_listed(
+    records: &mut Slab<KeptRecord>,
+    lists: &mut EdgeLists,
+    node: u32,
+    place: u32,
+    dim: u8,
+    code: Code,
+) -> (u32, u32)
+    requires node { IsSome (join (slots.get (nodes_of records.old lists.old) node)) }
+    requires place { IfSome (slots.get records.old node) (λ h. h.place ≡ Some place) }
+    requires listed { AreListed records.old lists.old }
+    ensures listed { AreListed records.new lists.new }
+    ensures here { slots.get (nodes_of records.new lists.new) node
+        ≡ option_map (option_map (without_edge dim code))
+        (slots.get (nodes_of records.old lists.old) node) }
+    ensures had { result.0 ≡ length (record_or
+        (join (slots.get (nodes_of records.old lists.old) node))).edges }
+    ensures has { result.1 ≡ length (record_or
+        (join (slots.get (nodes_of records.new lists.new) node))).edges }
+    ensures others { (q : ℕ) → q ≢ node → slots.get (nodes_of records.new lists.new) q
+        ≡ slots.get (nodes_of records.old lists.old) q }
+{
+    let (had, has) = lists.take(place, dim, code);
+    if has == 0 {
+        drop_list(records, lists, node, place);
+    }
+    (had, has)
+}
+
 // Removes the edge with a label from a record, if there is one. Gives the number of edges before
 // and after.
 fn take_at(
@@ -288,7 +344,7 @@ fn take_at(
         ≡ slots.get (nodes_of records.old lists.old) q }
 {
     match records[node as usize].place() {
-        Some(place) => lists.take(place, dim, code),
+        Some(place) => take_listed(records, lists, node, place, dim, code),
         None => take_own(&mut records[node as usize], dim, code),
     }
 }
@@ -552,7 +608,7 @@ impl RecordStore {
     {
         drop_edges(&mut self.records, &mut self.lists, node);
         self.records[node as usize] = was.copy();
-        store_list(&mut self.records, &mut self.lists, node, edges);
+        give_edges(&mut self.records, &mut self.lists, node, edges);
     }
 
     // Gives the cell of a node another number of dimensions.

@@ -4,14 +4,8 @@ use Rattle.cube_defs.specs.Tree.{Edge}
 use Rattle.qc_arena.specs.Edges.{without_edge}
 use Rattle.qc_arena.specs.KeptSlot.{Kept}
 use Rattle.qc_arena.specs.Records.{nodes_of}
-use Rattle.qc_arena.proofs.Listed.{kept_listed, kept_others, list_others, own_by, same_place, seen_own, there_after, write_at}
+use Rattle.qc_arena.proofs.Listed.{kept_listed, kept_others, own_by, same_place, seen_own, there_after, write_at}
 use Rattle.qc_arena.proofs.record_store.take_at.Goals as goal
-
-pub returns-in-Some-clause-others : goal.returns-in-Some-clause-others
-returns-in-Some-clause-others c =
-    let t = c.take.ensures in
-    list_others c.args.records.now c.args.lists.now c.take.new.self c.requires.listed c.args.node c.in-Some.place
-    c.index.result.now c.index.ensures (sym c.in-Some.ensures) t.taken.others t.there t.len t.capacity
 
 pub returns-in-None-clause-listed : goal.returns-in-None-clause-listed
 returns-in-None-clause-listed c =
