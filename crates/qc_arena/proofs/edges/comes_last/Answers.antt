@@ -8,5 +8,5 @@ pub returns-else-len-eq0 : goal.returns-else-len-eq0
 returns-else-len-eq0 c = λ before k d l.
     let n : ℕ = length c.args.edges.now in
     let some : 0 < n = omega (arith, l) in
-    up_to c.args.edges.now (edge_in c.args.edge) (n - 1) blank c.requires (omega (arith, some))
+    up_to c.args.edges.now (edge_in c.args.edge) (n - 1) blank c.requires.rising (omega (arith, some))
     (sym c.comes_before.ensures ∙ before) k d (omega (arith, l))
