@@ -10,7 +10,7 @@ use Rattle.std.proofs.Math.ListN.{get_or-map}
 use Rattle.slab.specs.Slab as slots
 use Rattle.slab.proofs.SlabLemmas.{ContainsKey-within, Updates-with_value}
 use Rattle.cube_defs.specs.Tree.{Edge}
-use Rattle.qc_arena.specs.EdgeLists.{list_at, list_in}
+use Rattle.qc_arena.specs.EdgeLists.{list_in}
 use Rattle.qc_arena.specs.Edges.{put_edge, with_edge}
 use Rattle.qc_arena.specs.Inside.{join}
 use Rattle.qc_arena.specs.KeptSlot.{Kept, with_edges}
@@ -310,6 +310,29 @@ module _ (s : slots.Slab Kept) (lists lists' : slots.Slab (List (Edge ℕ ℕ)))
       (changed_here s _ lists lists' q h h' dropped_changed are)
       (ap (λ (x : Kept). node_of lists' x) is
       ∙ step h.is_killed (with_edges []) _ (with_edges (edges_from lists h.place h.node.edges) h.node) refl)
+
+-- a record whose own edges go to a list stays the same
+pub own_listed : (s s' : slots.Slab Kept) (lists lists' : slots.Slab (List (Edge ℕ ℕ))) (q : ℕ) (h : Kept)
+    → slots.get s q ≡ Some h → h.place ≡ None → (list : List (Edge ℕ ℕ)) → list ≡ h.node.edges
+    → slots.get (nodes_of s' lists') q ≡ option_map (option_map (with_edges list)) (slots.get (nodes_of s lists) q)
+    → ((r : ℕ) → r ≢ q → slots.get (nodes_of s' lists') r ≡ slots.get (nodes_of s lists) r)
+    → (r : ℕ) → slots.get (nodes_of s' lists') r ≡ slots.get (nodes_of s lists) r
+own_listed s s' lists lists' q h value none list own here others r = elim (eqb_tells r q) [
+  | inl i ↦ subst (λ (z : ℕ). slots.get (nodes_of s' lists') z ≡ slots.get (nodes_of s lists) z) (sym i.1) (here ∙ same)
+  | inr i ↦ others r i.1
+]
+  where
+    go : (b : Bool) → option_map (with_edges list)
+        (cond b None (Some (with_edges (edges_from lists h.place h.node.edges) h.node)))
+        ≡ cond b None (Some (with_edges (edges_from lists h.place h.node.edges) h.node))
+    go true = refl
+    go false = ap (λ (es : List (Edge ℕ ℕ)). Some (with_edges es h.node))
+        (own ∙ sym (ap (λ (o : Option ℕ). edges_from lists o h.node.edges) none))
+
+    same : option_map (option_map (with_edges list)) (slots.get (nodes_of s lists) q) ≡ slots.get (nodes_of s lists) q
+    same = subst (λ (o : Option (Option Known)). option_map (option_map (with_edges list)) o ≡ o)
+        (sym (get-nodes s lists q ∙ ap (λ (o : Option Kept). option_map (node_of lists) o) value))
+        (ap (λ (x : Option Known). Some x) (go h.is_killed))
 
 -- a list is written
 module _ (s : slots.Slab Kept) (lists lists' : slots.Slab (List (Edge ℕ ℕ))) (are : AreListed s lists) (q place : ℕ)
