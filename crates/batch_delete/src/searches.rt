@@ -18,7 +18,7 @@ use tree_search::step_with_forced;
 
 /// So many searches go on side by side. What they read is far apart in memory, so the processor
 /// fetches it for all of them at the same time.
-pub(crate) const SEARCHES: u32 = 4;
+pub(crate) const SEARCHES: u32 = 8;
 
 /// The nodes found for some labels in a row. The labels are those from a place on, until another.
 #[derive(Clone, Copy)]
