@@ -26,3 +26,15 @@ returns c =
     ∙ ap (λ (z : List ℕ). z ++ 44 ∷ amount_text scale p.greatest) two
     ∙ three-fields out (amount_text scale p.sum) (amount_text scale p.least) (amount_text scale p.greatest))
     c.push_beside-2.ensures
+
+pub push_beside-requires-clause-text : goal.push_beside-requires-clause-text
+push_beside-requires-clause-text c =
+    ap (take c.print_amount-len.result) c.print_amount-len.ensures.text
+    ∙ take_at (amount_text c.args.scale (to_z w64 (of_z w64 c.args.part.sum))) _ c.print_amount-len.result
+    (sym c.print_amount-len.ensures.len)
+
+pub push_beside-requires-2-clause-text : goal.push_beside-requires-2-clause-text
+push_beside-requires-2-clause-text c =
+    ap (take c.print_amount-len.result) c.print_amount-len.ensures.text
+    ∙ take_at (amount_text c.args.scale (to_z w64 (of_z w64 c.args.part.sum))) _ c.print_amount-len.result
+    (sym c.print_amount-len.ensures.len)
