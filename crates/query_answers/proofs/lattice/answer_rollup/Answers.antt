@@ -1,12 +1,15 @@
 use Rattle.std.proofs.Common.{◌≡◌, ◌≤◌, ◌+◌, ◌*◌, ℕ, length, sym, ap, subst, ◌∙◌, arith}
 use Rattle.std.specs.Ordering.{nat_cmp}
+use Rattle.std.specs.Prelude.{All, IsSome}
 use Rattle.std.proofs.lemmas.List.{length-map}
 use Rattle.std.proofs.lemmas.Result.{IfOk-weaker}
 use Rattle.aggregates.specs.Views.{fraction_in, kind_in}
+use Rattle.cell_core.specs.declared.cell.NodeNo.{NodeNo}
 use Rattle.cube_defs.specs.Answers as answers
 use Rattle.cube_defs.specs.Text.{text_cmp}
 use Rattle.iceberg_query.specs.Asked.{bound_in}
-use Rattle.qc_schema.specs.Schema.{Layout}
+use Rattle.qc_schema.specs.Schema.{IsLayout, Layout}
+use Rattle.query_script.specs.Commands.{IsMeasured}
 use Rattle.quotient_lattice.specs.Neighbours as lattice
 use Rattle.quotient_lattice.specs.Costs.{size_from}
 use Rattle.quotient_lattice.specs.DecodedNodes.{decoded_node, decoded_nodes}
@@ -14,7 +17,7 @@ use Rattle.qc_arena.specs.RecordReaders.{record_at}
 use Rattle.reply_text.specs.Words.{reply_bytes}
 use Rattle.value_dict.specs.Decoded.{decoded_cell}
 use Rattle.warehouse.specs.State.{coded_rows, source_of, with_rows}
-use Rattle.query_answers.specs.Lattice.{upper_of}
+use Rattle.query_answers.specs.Lattice.{related, upper_of}
 use Rattle.query_answers.specs.Queries.{ask_of, cell_of_fields, scale_of}
 use Rattle.query_answers.proofs.Measured.{measure-there}
 use Rattle.query_answers.proofs.Recoded.{rows-known}
@@ -118,3 +121,35 @@ returns-in-Ok-clause-steps g c = λ rows has.
     (subst (λ m. c.rollup.new.steps ≤ c.find_upper_node.new.steps + 17 * (m + 1) * size_from nat_cmp (coded_rows s) cell)
     c.requires.asked.source.rows.wide
     (c.in-Ok.ensures.steps (source_of s) (tree-of _ _ _ c.requires.asked.source.rows rows has))) c.nodes_reply.ensures.steps
+
+pub scale_of_kind-requires-clause-layout : goal.scale_of_kind-requires-clause-layout
+scale_of_kind-requires-clause-layout g c
+    = subst IsLayout (sym c.schema.ensures.value) c.schema.ensures.valid.state.consistent.layout
+
+pub scale_of_kind-requires-clause-measured : goal.scale_of_kind-requires-clause-measured
+scale_of_kind-requires-clause-measured g c
+    = subst (λ (l : Layout). IsMeasured (length l.measures) (kind_in c.args.condition.kind))
+    (sym c.schema.ensures.value) c.requires.measured
+
+pub invariant_of-ask : goal.invariant_of-ask
+invariant_of-ask g c = record { in_range = c.scale_of_kind.ensures.few }
+
+pub rollup-requires-clause-class : goal.rollup-requires-clause-class
+rollup-requires-clause-class g c = c.in-Some.ensures.class
+
+pub nodes_reply-requires-clause-classes : goal.nodes_reply-requires-clause-classes
+nodes_reply-requires-clause-classes g c
+    = subst (All (λ (node : NodeNo). IsSome (record_at (g.T.Nodes.tree c.args.source.now.tree.now) node.0).class))
+    (sym c.deref.ensures.value) c.in-Ok.ensures.classes
+
+pub nodes_reply-requires-clause-source : goal.nodes_reply-requires-clause-source
+nodes_reply-requires-clause-source g c = c.requires.asked.source
+
+pub returns-in_default-clause-reply : goal.returns-in_default-clause-reply
+returns-in_default-clause-reply g c = λ rows has.
+    let s = with_rows c.args.source.now.warehouse.now.state rows in
+    let asked : answers.Ask = ask_of s.schema.measures (kind_in c.args.condition.kind) (bound_in c.args.condition.bound)
+    (fraction_in c.args.condition.value) in
+    c.none_reply.ensures
+    ∙ ap (related s c.args.number (lattice.rollup text_cmp (length s.schema.measures) s.rows asked))
+    (c.in_default.ensures.upper rows has)
