@@ -1,5 +1,6 @@
-use Rattle.std.proofs.Common.{◌≤◌, ◌+◌, ℕ, Option, Some, None, arith, rules}
-use Rattle.std.specs.Prelude.{Err, IfOk, IsSome, Ok, OnErr, OnOk, Result, if◌then◌else◌, is_some}
+use Rattle.std.proofs.Common.{◌≤◌, ◌+◌, ℕ, Option, Some, None, arith, rules, subst}
+use Rattle.std.specs.Prelude.{◌≢◌, ⊤, Err, IfOk, IsSome, Ok, OnErr, OnOk, Result, if◌then◌else◌, is_some}
+use Rattle.query_script.specs.Queries as queries
 use Rattle.query_answers.proofs.Taken.{named-in}
 use Rattle.query_answers.proofs.query.answer_query.Goals as goal
 
@@ -14,6 +15,20 @@ on-err (Err e) p = p
 none-more : (n : ℕ) → n ≤ n + 0
 none-more n = omega arith
 
+-- a query of another kind
+abbrev IsOther : queries.Query → Type 0
+IsOther (queries.Point fields) = ⊤
+IsOther (queries.Range fields) = ⊤
+IsOther (queries.Bounds fields) = ⊤
+IsOther (queries.Iceberg kind bound value) = ⊤
+IsOther queries.Stats = ⊥
+IsOther (queries.Parents fields) = ⊤
+IsOther (queries.Children fields) = ⊤
+IsOther (queries.Rollup kind bound value fields) = ⊤
+
+other-than-stats : (q : queries.Query) → IsOther q → q ≢ queries.Stats
+other-than-stats q other = λ same. subst IsOther same other
+
 -- what holds where there is a ranking, and where there is none
 either : {T E X : Type 0} (r : Result T E) (o : Option X) (from to each walk : ℕ)
     → (IsSome o → IfOk r (λ _. to ≤ from + each)) → IfOk r (λ _. to ≤ from + (each + walk))
@@ -26,21 +41,21 @@ pub returns-in-Point : goal.returns-in-Point
 returns-in-Point g c = rw c.in-Point.is (record {
   reply = λ rows has counted. c.answer_point.ensures.reply rows has;
   steps = λ rows has. on-ok c.answer_point.result _ c.answer_point.ensures.steps;
-  memory = on-err c.answer_point.result (λ e. absurd (cc e));
+  memory = on-err c.answer_point.result (other-than-stats _ tt);
 })
 
 pub returns-in-Range : goal.returns-in-Range
 returns-in-Range g c = rw c.in-Range.is (record {
   reply = λ rows has counted. c.answer_range.ensures.reply rows has;
   steps = λ rows has. on-ok c.answer_range.result _ (c.answer_range.ensures.steps rows has);
-  memory = on-err c.answer_range.result (λ e. absurd (cc e));
+  memory = on-err c.answer_range.result (other-than-stats _ tt);
 })
 
 pub returns-in-Bounds : goal.returns-in-Bounds
 returns-in-Bounds g c = rw c.in-Bounds.is (record {
   reply = λ rows has counted. c.answer_bounds.ensures.reply rows has;
   steps = λ rows has. on-ok c.answer_bounds.result _ c.answer_bounds.ensures.steps;
-  memory = on-err c.answer_bounds.result (λ e. absurd (cc e));
+  memory = on-err c.answer_bounds.result (other-than-stats _ tt);
 })
 
 pub returns-in-Iceberg : goal.returns-in-Iceberg
@@ -48,7 +63,7 @@ returns-in-Iceberg g c = rw c.in-Iceberg.is (record {
   reply = λ rows has counted. c.answer_iceberg.ensures.reply rows has;
   steps = λ rows has. rw (named-in c.in-Iceberg.kind) (either c.answer_iceberg.result _ _ _ _ _
       (λ there. c.answer_iceberg.ensures.steps there rows has) (c.answer_iceberg.ensures.walked rows has));
-  memory = on-err c.answer_iceberg.result (λ e. absurd (cc e));
+  memory = on-err c.answer_iceberg.result (other-than-stats _ tt);
 })
 
 pub returns-in-Stats-clause-steps : goal.returns-in-Stats-clause-steps
@@ -58,21 +73,21 @@ pub returns-in-Parents : goal.returns-in-Parents
 returns-in-Parents g c = rw c.in-Parents.is (record {
   reply = λ rows has counted. c.answer_parents.ensures.reply rows has;
   steps = λ rows has. on-ok c.answer_parents.result _ (c.answer_parents.ensures.steps rows has);
-  memory = on-err c.answer_parents.result (λ e. absurd (cc e));
+  memory = on-err c.answer_parents.result (other-than-stats _ tt);
 })
 
 pub returns-in-Children : goal.returns-in-Children
 returns-in-Children g c = rw c.in-Children.is (record {
   reply = λ rows has counted. c.answer_children.ensures.reply rows has;
   steps = λ rows has. on-ok c.answer_children.result _ (c.answer_children.ensures.steps rows has);
-  memory = on-err c.answer_children.result (λ e. absurd (cc e));
+  memory = on-err c.answer_children.result (other-than-stats _ tt);
 })
 
 pub returns-in-Rollup : goal.returns-in-Rollup
 returns-in-Rollup g c = rw c.in-Rollup.is (record {
   reply = λ rows has counted. c.answer_rollup.ensures.reply rows has;
   steps = λ rows has. on-ok c.answer_rollup.result _ (c.answer_rollup.ensures.steps rows has);
-  memory = on-err c.answer_rollup.result (λ e. absurd (cc e));
+  memory = on-err c.answer_rollup.result (other-than-stats _ tt);
 })
 
 pub answer_point-requires : goal.answer_point-requires
