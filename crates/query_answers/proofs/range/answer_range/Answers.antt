@@ -44,7 +44,8 @@ told : (now schema : Layout) (line : ℕ) (lists texts : List (List Text)) (show
     → now ≡ schema → lists ≡ texts → shown ≡ items → decoded_hits texts items ≡ found
     → length items ≤ MAX_RANGE_CELLS → reply ≡ range_reply schema line found
 told now schema line lists texts shown items found reply said same listed is hit few =
-    let fits : length found ≤ MAX_RANGE_CELLS = omega (arith, ap length hit, length-map items (λ (hit : hits.Hit). decoded_hit texts (hit_in hit))) in
+    let fits : length found ≤ MAX_RANGE_CELLS = omega (arith, ap length hit,
+    length-map items (λ (hit : hits.Hit). decoded_hit texts (hit_in hit))) in
     let none : nat_lt MAX_RANGE_CELLS (length found) ≡ false = grind (arith, nat_tests) in
     rw none (cc)
 
@@ -67,4 +68,5 @@ pub returns-in-Err-TooMany-clause-reply : goal.returns-in-Err-TooMany-clause-rep
 returns-in-Err-TooMany-clause-reply g c = λ rows has.
     let s = with_rows c.args.source.now.warehouse.now.state rows in
     c.refused.ensures ∙ ap (refused_text c.args.number) c.many_refusal.ensures.texts
-    ∙ many s.schema c.args.number (hits_of s c.args.asked.now) (c.in-Err-TooMany.ensures.too_many (ap Err c.in-Err-TooMany.field-0-is) rows has)
+    ∙ many s.schema c.args.number (hits_of s c.args.asked.now)
+    (c.in-Err-TooMany.ensures.too_many (ap Err c.in-Err-TooMany.field-0-is) rows has)
