@@ -44,8 +44,11 @@ told : (now schema : Layout) (line : ℕ) (lists texts : List (List Text)) (show
     → now ≡ schema → lists ≡ texts → shown ≡ items → decoded_hits texts items ≡ found
     → length items ≤ MAX_RANGE_CELLS → reply ≡ range_reply schema line found
 told now schema line lists texts shown items found reply said same listed is hit few =
-    let fits : length found ≤ MAX_RANGE_CELLS = omega (arith, ap length hit,
-    length-map items (λ (hit : hits.Hit). decoded_hit texts (hit_in hit))) in
+    let fits : length found ≤ MAX_RANGE_CELLS = omega (
+      arith,
+      ap length hit,
+      length-map items (λ (hit : hits.Hit). decoded_hit texts (hit_in hit)),
+    ) in
     let none : nat_lt MAX_RANGE_CELLS (length found) ≡ false = grind (arith, nat_tests) in
     rw none (cc)
 
