@@ -25,6 +25,18 @@ impl Agg {
     ghost use Rattle.aggregates.specs.Views.{agg_in};
     ghost use Rattle.cube_laws.specs.Total.{combine};
 
+    /// The aggregate of one row whose amounts are zero.
+    pub fn zero(measures: u8) -> Agg
+        requires few { measures ≤ MAX_MEASURES }
+        ensures measures { result.measures ≡ measures }
+    {
+        Agg {
+            parts: [ZERO; MAX_MEASURES as usize],
+            count: 1,
+            measures,
+        }
+    }
+
     /// The aggregate of one row with these amounts.
     pub fn one(amounts: &[i64]) -> Agg
         requires few { length amounts.now ≤ MAX_MEASURES }
@@ -32,13 +44,20 @@ impl Agg {
         ensures aggregate { agg_in result ≡ agg_of_row amounts.now }
         ensures measures { result.measures ≡ length amounts.now }
     {
-        let mut agg = Agg {
-            parts: [ZERO; MAX_MEASURES as usize],
-            count: 1,
-            measures: amounts.len() as u8,
-        };
-        set_parts(&mut agg.parts, amounts);
+        let mut agg = Agg::zero(amounts.len() as u8);
+        agg.restart(amounts);
         agg
+    }
+
+    /// Becomes the aggregate of one row with these amounts.
+    pub fn restart(&mut self, amounts: &[i64])
+        requires measures { length amounts.now ≡ self.old.measures }
+        requires small { All (λ a. nat_abs a ≤ MAX_AMOUNT) amounts.now }
+        ensures aggregate { agg_in self.new ≡ agg_of_row amounts.now }
+        ensures measures { self.new.measures ≡ self.old.measures }
+    {
+        self.count = 1;
+        set_parts(&mut self.parts, amounts);
     }
 
     /// Adds one row with these amounts.

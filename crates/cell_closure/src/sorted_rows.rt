@@ -72,6 +72,14 @@ impl SortedRows {
         })
     }
 
+    /// The number of measures.
+    pub fn measures(&self) -> u8
+        ensures value { result ≡ self.now.measures }
+        ensures valid { IsTable self.now }
+    {
+        self.measures
+    }
+
     /// The number of dimensions.
     pub fn dims(&self) -> u8
         ensures value { result ≡ self.now.dims }

@@ -31,14 +31,14 @@ pub(crate) fn add_prefix_node<L: Ledger>(
     edge: ChildEdge,
     path: &mut Path,
 ) -> Result<(), ArenaRefused>
-    requires value { slice_index_or part.now.shared dim None ≡ Some edge.code }
-    requires stands { StandsBefore part.now.table.now part.now.shared dim
-        (prefix_acts edge.is_forced part.now.shared dim edge.code)
+    requires value { slice_index_or part.now.shared.now dim None ≡ Some edge.code }
+    requires stands { StandsBefore part.now.table.now part.now.shared.now dim
+        (prefix_acts edge.is_forced part.now.shared.now dim edge.code)
         builder.old.arena.now path.old builder.old.fronts.now }
     ensures done { OnOk result
-        (HasDone part.now.table.now (prefix_acts edge.is_forced part.now.shared dim edge.code)
+        (HasDone part.now.table.now (prefix_acts edge.is_forced part.now.shared.now dim edge.code)
         builder.old.arena.now builder.new.arena.now builder.new.fronts.now) }
-    ensures path { OnOk result (IsOnPath builder.new.arena.now path.new part.now.shared (dim + 1)) }
+    ensures path { OnOk result (IsOnPath builder.new.arena.now path.new part.now.shared.now (dim + 1)) }
     ensures full { result ≡ Err ArenaRefused.Full
         → builder.old.arena.now.max < length (nodes nat_cmp (rows_of part.now.table.now)) }
     ensures frame { frame builder.new.arena.now ≡ frame builder.old.arena.now }

@@ -12,8 +12,8 @@ use cell_core::{Cell, Code};
 pub(crate) struct Partition<'a> {
     pub(crate) table: &'a SortedRows,
     pub(crate) rows: &'a [RowNo],
-    pub(crate) shared: Cell,
-    pub(crate) ghost is: { IsPart table.now rows.now shared } by { Prim.hlevel props },
+    pub(crate) shared: &'a Cell,
+    pub(crate) ghost is: { IsPart table.now rows.now shared.now } by { Prim.hlevel props },
 }
 
 /// The rows of a part that have the code in the dimension. `upper` is what all rows of the part

@@ -68,13 +68,13 @@ impl PrefixNodes {
     /// Stores the node of the prefix through `dim` of what the rows share, if they share a value in
     /// each dimension up to it.
     pub(crate) fn note(&mut self, part: &Partition<'_>, dim: u8, node: NodeNo)
-        requires dim { dim < length part.now.shared }
-        requires dims { self.old.dims ≡ length part.now.shared }
+        requires dim { dim < length part.now.shared.now }
+        requires dims { self.old.dims ≡ length part.now.shared.now }
         ensures { (arena : Arena) → ArePrefixNodes part.now.table.now arena self.old
-            → cell_at arena.now node.0 ≡ Some (cell_prefix (suc dim) part.now.shared)
+            → cell_at arena.now node.0 ≡ Some (cell_prefix (suc dim) part.now.shared.now)
             → ArePrefixNodes part.now.table.now arena self.new }
     {
-        if is_full(&part.shared, dim) {
+        if is_full(part.shared, dim) {
             'rows: for row in part.rows {
                 let place = self.place(*row, dim);
                 if let Some(noted) = self.nodes.get_mut(place) {

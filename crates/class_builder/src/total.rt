@@ -7,16 +7,17 @@ ghost use Rattle.aggregates.specs.Views.{agg_in};
 use crate::part::Partition;
 use aggregates::Agg;
 
-/// The aggregate of the part's rows.
-pub(crate) fn total(part: &Partition<'_>) -> Agg
-    ensures { agg_in result
+/// Makes it the aggregate of the part's rows. It stays where it is: a copy right after the rows were
+/// added would wait for what was written last.
+pub(crate) fn total(part: &Partition<'_>, agg: &mut Agg)
+    requires { agg.old.measures ≡ part.now.table.now.measures }
+    ensures { agg_in agg.new
         ≡ agg_of part.now.table.now.measures (named part.now.table.now part.now.rows.now) }
 {
     let table = part.table;
     let rows = part.rows;
-    let mut agg = Agg::one(table.amounts(rows[0]));
+    agg.restart(table.amounts(rows[0]));
     'rows: for i in 1..rows.len() {
         agg.add_row(table.amounts(rows[i]));
     }
-    agg
 }

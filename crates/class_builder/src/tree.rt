@@ -86,10 +86,11 @@ fn build_sorted<L: Ledger>(
         table,
         numbers: &rows,
     };
+    let shared = closure_of_all(alloc, &some);
     let part = Partition {
         table,
         rows: some.numbers,
-        shared: closure_of_all(alloc, &some),
+        shared: &shared,
     };
     let Ok(mut fronts) = PrefixNodes::new(alloc, table) else {
         return Err(ArenaRefused::Memory);
@@ -128,7 +129,7 @@ fn build_all<L: Ledger>(
 {
     match add_root(builder.arena, builder.steps) {
         Ok(root) => {
-            let built = drill(builder, part, 0, Path::start(root));
+            let built = drill(builder, part, 0, &mut Path::start(root));
             is_within(builder.arena);
             built
         }

@@ -89,21 +89,21 @@ pub(crate) fn closure_of_all(alloc: Global, rows: &SomeRows<'_, SortedRows>) -> 
     shared
 }
 
-/// The closure of a group's rows. Before the group's dimension they share no more than `upper` has.
-pub(crate) fn closure_of_part(group: &Group<'_>) -> Cell
-    requires { same_prefix group.now.dim
+/// Makes a copy of `upper` the closure of the group's rows. Before the group's dimension they share
+/// no more than `upper` has.
+pub(crate) fn close(group: &Group<'_>, shared: &mut Cell)
+    requires upper { shared.old ≡ group.now.upper.now }
+    requires front { same_prefix group.now.dim
         (shared_by (named group.now.table.now group.now.rows.now)) group.now.upper.now ≡ true }
-    ensures { result ≡ shared_by (named group.now.table.now group.now.rows.now) }
+    ensures { shared.new ≡ shared_by (named group.now.table.now group.now.rows.now) }
 {
     let table = group.table;
     let dim = group.dim;
-    let mut next = group.upper.copy();
-    next.set(dim, Entry::Is(table.code(group.rows[0], dim)));
+    shared.set(dim, Entry::Is(table.code(group.rows[0], dim)));
     'dims: for i in dim + 1..table.dims() {
         let entry = entry_of(group, i);
-        next.set(i, entry);
+        shared.set(i, entry);
     }
-    next
 }
 
 /// The prefix through the group's dimension of what its rows share. Before dimension `at` they

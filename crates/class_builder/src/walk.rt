@@ -18,7 +18,8 @@ use crate::labels::{add_prefix_node, link_part};
 use crate::part::{ChildEdge, Group, Partition};
 use crate::path::Path;
 use crate::total::total;
-use crate::upper::{closure_of_part, first_new_value};
+use crate::upper::{close, first_new_value};
+use aggregates::Agg;
 use cell_closure::{Parts, TableRows};
 use cell_core::{Entry, NodeNo};
 use qc_arena::ArenaRefused;
@@ -31,12 +32,12 @@ pub(crate) fn drill<L: Ledger>(
     builder: &mut Builder<'_, L>,
     part: &Partition<'_>,
     first: u8,
-    mut path: Path,
+    path: &mut Path,
 ) -> Result<(), ArenaRefused>
     requires first { first ≤ part.now.table.now.dims }
-    requires stands { StandsAt part.now.table.now part.now.shared first
+    requires stands { StandsAt part.now.table.now part.now.shared.now first
         (acts_from part.now.table.now first (named part.now.table.now part.now.rows.now))
-        builder.old.arena.now path builder.old.fronts.now }
+        builder.old.arena.now path.old builder.old.fronts.now }
     ensures done { OnOk result (HasDone part.now.table.now
         (acts_from part.now.table.now first (named part.now.table.now part.now.rows.now))
         builder.old.arena.now builder.new.arena.now builder.new.fronts.now) }
@@ -51,9 +52,10 @@ pub(crate) fn drill<L: Ledger>(
 {
     // Reads all amounts in their order now. The groups of these rows later read them in another
     // order.
-    let agg = total(part);
+    let mut agg = Agg::zero(part.table.measures());
+    total(part, &mut agg);
     'dims: for dim in first..part.table.dims() {
-        match drill_at(builder, part, dim, &mut path) {
+        match drill_at(builder, part, dim, path) {
             Ok(()) => {}
             Err(error) => return Err(error),
         }
@@ -77,15 +79,15 @@ fn drill_at<L: Ledger>(
     dim: u8,
     path: &mut Path,
 ) -> Result<(), ArenaRefused>
-    requires { StandsBefore part.now.table.now part.now.shared dim
-        (acts_at (acts_from part.now.table.now (dim + 1)) dim part.now.shared
-        (slice_index_or part.now.shared dim None) (named part.now.table.now part.now.rows.now))
+    requires { StandsBefore part.now.table.now part.now.shared.now dim
+        (acts_at (acts_from part.now.table.now (dim + 1)) dim part.now.shared.now
+        (slice_index_or part.now.shared.now dim None) (named part.now.table.now part.now.rows.now))
         builder.old.arena.now path.old builder.old.fronts.now }
     ensures done { OnOk result (HasDone part.now.table.now
-        (acts_at (acts_from part.now.table.now (dim + 1)) dim part.now.shared
-        (slice_index_or part.now.shared dim None) (named part.now.table.now part.now.rows.now))
+        (acts_at (acts_from part.now.table.now (dim + 1)) dim part.now.shared.now
+        (slice_index_or part.now.shared.now dim None) (named part.now.table.now part.now.rows.now))
         builder.old.arena.now builder.new.arena.now builder.new.fronts.now) }
-    ensures path { OnOk result (IsOnPath builder.new.arena.now path.new part.now.shared (dim + 1)) }
+    ensures path { OnOk result (IsOnPath builder.new.arena.now path.new part.now.shared.now (dim + 1)) }
     ensures full { result ≡ Err ArenaRefused.Full
         → builder.old.arena.now.max < length (nodes nat_cmp (rows_of part.now.table.now)) }
     ensures frame { frame builder.new.arena.now ≡ frame builder.old.arena.now }
@@ -93,8 +95,8 @@ fn drill_at<L: Ledger>(
     ensures same_steps { builder.new.steps.ghost_name ≡ builder.old.steps.ghost_name }
     ensures steps { OnOk result (builder.new.steps.now ≤ builder.old.steps.now
         + cost_of_acts part.now.table.now.dims
-        (acts_at (acts_from part.now.table.now (dim + 1)) dim part.now.shared
-        (slice_index_or part.now.shared dim None) (named part.now.table.now part.now.rows.now))) }
+        (acts_at (acts_from part.now.table.now (dim + 1)) dim part.now.shared.now
+        (slice_index_or part.now.shared.now dim None) (named part.now.table.now part.now.rows.now))) }
 {
     match part.shared.get(dim) {
         Entry::Is(code) => {
@@ -151,12 +153,12 @@ fn drill_in<L: Ledger>(
     dim: u8,
     path: &Path,
 ) -> Result<(), ArenaRefused>
-    requires { StandsBefore part.now.table.now part.now.shared dim
-        (acts_at (acts_from part.now.table.now (dim + 1)) dim part.now.shared None
+    requires { StandsBefore part.now.table.now part.now.shared.now dim
+        (acts_at (acts_from part.now.table.now (dim + 1)) dim part.now.shared.now None
         (named part.now.table.now part.now.rows.now))
         builder.old.arena.now path.now builder.old.fronts.now }
     ensures done { OnOk result (HasDone part.now.table.now
-        (acts_at (acts_from part.now.table.now (dim + 1)) dim part.now.shared None
+        (acts_at (acts_from part.now.table.now (dim + 1)) dim part.now.shared.now None
         (named part.now.table.now part.now.rows.now))
         builder.old.arena.now builder.new.arena.now builder.new.fronts.now) }
     ensures full { result ≡ Err ArenaRefused.Full
@@ -166,7 +168,7 @@ fn drill_in<L: Ledger>(
     ensures same_steps { builder.new.steps.ghost_name ≡ builder.old.steps.ghost_name }
     ensures steps { OnOk result (builder.new.steps.now ≤ builder.old.steps.now
         + cost_of_acts part.now.table.now.dims
-        (acts_at (acts_from part.now.table.now (dim + 1)) dim part.now.shared None
+        (acts_at (acts_from part.now.table.now (dim + 1)) dim part.now.shared.now None
         (named part.now.table.now part.now.rows.now))) }
 {
     let Ok(parts) = groups_of(builder, part, dim, path.at(dim)) else {
@@ -177,7 +179,7 @@ fn drill_in<L: Ledger>(
             table: part.table,
             rows: parts.rows(k),
             code: parts.code(k),
-            upper: &part.shared,
+            upper: part.shared,
             dim,
         };
         match drill_part(builder, &group, path) {
@@ -217,10 +219,12 @@ fn drill_part<L: Ledger>(
             Err(_) => Err(ArenaRefused::Memory),
         },
         None => {
+            let mut shared = group.upper.copy();
+            close(group, &mut shared);
             let part = Partition {
                 table: group.table,
                 rows: group.rows,
-                shared: closure_of_part(group),
+                shared: &shared,
             };
             let edge = ChildEdge {
                 code: group.code,
@@ -228,7 +232,7 @@ fn drill_part<L: Ledger>(
             };
             let mut below = *path;
             match add_prefix_node(builder, &part, group.dim, edge, &mut below) {
-                Ok(()) => drill(builder, &part, group.dim + 1, below),
+                Ok(()) => drill(builder, &part, group.dim + 1, &mut below),
                 Err(error) => Err(error),
             }
         }

@@ -9,10 +9,10 @@ rows-init c =
     let table = c.args.part.now.table.now in
     let nos = c.args.part.now.rows.now in
     record {
-      is = c.one-agg.ensures.aggregate
+      is = c.restart.ensures.aggregate
           ∙ first_total table table.measures nos c.amounts.result.now part.some
           (part.there 0 zeroth part.some) c.amounts.ensures.value c.amounts.ensures.measures;
-      measures = c.one-agg.ensures.measures ∙ c.amounts.ensures.measures;
+      measures = c.restart.ensures.measures ∙ c.requires;
     }
 
 pub add_row-requires-clause-few : goal.add_row-requires-clause-few

@@ -32,8 +32,8 @@ drill-built-requires-clause-stands g c =
           c.add_root.new.arena (first_next c.args.part.now.table.now.measures (rows_of c.args.part.now.table.now) _
           c.args.builder.now.arena.now going)
           (c.in-Ok.ensures.made c.args.part.now.table.now.measures (rows_of c.args.part.now.table.now));
-      path = root_path c.add_root.new.arena c.start.result c.args.part.now.shared c.args.builder.now.arena.now.width
-          (part_long c.args.part.now.table.now c.args.part.now.rows.now c.args.part.now.shared c.args.part.now.is
+      path = root_path c.add_root.new.arena c.start.result c.args.part.now.shared.now c.args.builder.now.arena.now.width
+          (part_long c.args.part.now.table.now c.args.part.now.rows.now c.args.part.now.shared.now c.args.part.now.is
           ∙ sym c.requires.fresh.width) (ap (λ k. cell_at c.add_root.new.arena.now k) c.start.ensures ∙ c.in-Ok.ensures.here);
       fronts = noted_stay c.args.part.now.table.now c.args.builder.now.arena.now c.add_root.new.arena
           c.args.builder.now.fronts.now (c.in-Ok.ensures.made 0 []).cells c.requires.fronts;

@@ -19,6 +19,6 @@ invariant_of-part g c =
         some = some;
         few = rows_few table c.recall_invariant.ensures rows (there table rows are) all;
         there = are;
-        shared = c.closure_of_all.ensures;
+        shared = c.closure_of_all-shared.ensures;
       };
     }

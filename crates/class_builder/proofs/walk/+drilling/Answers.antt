@@ -33,8 +33,8 @@ drill-drill_at-requires g t c =
     let table = c.args.part.now.table.now in
     let rows = named table c.args.part.now.rows.now in
     let lt : c.dims.dim < table.dims = subst (λ n. c.dims.dim < n) c.dims-dim-end.ensures.value c.dims-test.true in
-    let es = acts_at (acts_from table (c.dims.dim + 1)) c.dims.dim c.args.part.now.shared
-    (entry c.args.part.now.shared c.dims.dim) rows in
+    let es = acts_at (acts_from table (c.dims.dim + 1)) c.dims.dim c.args.part.now.shared.now
+    (entry c.args.part.now.shared.now c.dims.dim) rows in
     let fs = acts_from table (c.dims.dim + 1) rows in
     λ κs h. (
       search rules,
@@ -42,11 +42,11 @@ drill-drill_at-requires g t c =
         h,
         record {
           below = lt;
-          at = stands_prefix table es fs c.args.part.now.shared c.dims.dim c.dims.builder.arena.now c.dims.path
+          at = stands_prefix table es fs c.args.part.now.shared.now c.dims.dim c.dims.builder.arena.now c.dims.path
               c.dims.builder.fronts.now
-              (subst (λ xs. StandsAt table c.args.part.now.shared c.dims.dim xs c.dims.builder.arena.now c.dims.path
+              (subst (λ xs. StandsAt table c.args.part.now.shared.now c.dims.dim xs c.dims.builder.arena.now c.dims.path
               c.dims.builder.fronts.now)
-              (acts_here table c.dims.dim c.args.part.now.shared rows lt c.args.part.now.is.shared)
+              (acts_here table c.dims.dim c.args.part.now.shared.now rows lt c.args.part.now.is.shared)
               c.dims.invariant.stands);
         },
       ),
@@ -67,9 +67,9 @@ drill-dims-preserved g t c =
     let table = c.args.part.now.table.now in
     let rows = named table c.args.part.now.rows.now in
     let lt : c.dims.dim < table.dims = subst (λ n. c.dims.dim < n) c.dims-dim-end.ensures.value c.dims-test.true in
-    let here = acts_here table c.dims.dim c.args.part.now.shared rows lt c.args.part.now.is.shared in
-    let es = acts_at (acts_from table (c.dims.dim + 1)) c.dims.dim c.args.part.now.shared
-    (entry c.args.part.now.shared c.dims.dim) rows in
+    let here = acts_here table c.dims.dim c.args.part.now.shared.now rows lt c.args.part.now.is.shared in
+    let es = acts_at (acts_from table (c.dims.dim + 1)) c.dims.dim c.args.part.now.shared.now
+    (entry c.args.part.now.shared.now c.dims.dim) rows in
     let fs = acts_from table (c.dims.dim + 1) rows in
     let a = c.dims.builder.arena.now in
     let b = c.drill_at.new.builder.arena.now in
@@ -77,10 +77,10 @@ drill-dims-preserved g t c =
       whole = λ d f e. c.dims.invariant.whole d f
           (subst (λ xs. HasDone table xs a d f) (sym here)
           (done_then table es fs a b d c.drill_at.new.builder.fronts.now f c.in-Ok.ensures.done e));
-      stands = stands_behind table es fs c.args.part.now.shared c.args.part.now.shared c.dims.dim
+      stands = stands_behind table es fs c.args.part.now.shared.now c.args.part.now.shared.now c.dims.dim
           (c.dims.dim + 1) a b c.dims.path c.drill_at.new.path c.dims.builder.fronts.now
           c.drill_at.new.builder.fronts.now
-          (subst (λ xs. StandsAt table c.args.part.now.shared c.dims.dim xs a c.dims.path c.dims.builder.fronts.now)
+          (subst (λ xs. StandsAt table c.args.part.now.shared.now c.dims.dim xs a c.dims.path c.dims.builder.fronts.now)
           here c.dims.invariant.stands) c.in-Ok.ensures.done c.in-Ok.ensures.frame c.in-Ok.ensures.path;
       rest = c.in-Ok.ensures.frame ∙ c.dims.invariant.rest;
       same = c.in-Ok.ensures.same ∙ c.dims.invariant.same;
@@ -94,8 +94,8 @@ drill-mark_class-requires g t c =
     let most : c.dims-2.result ≤ c.dims.dim
     = subst (λ n. n ≤ c.dims.dim) (c.dims-dim-end.ensures.value ∙ sym c.dims-2.ensures.value) c.dims-test.false in
     record {
-      change = on_change c.dims.builder.arena.now c.at.result.0 (cell_prefix c.dims-2.result c.args.part.now.shared)
-          (on_path c.dims.builder.arena.now c.dims.path c.args.part.now.shared c.dims.dim c.dims-2.result c.at.result.0
+      change = on_change c.dims.builder.arena.now c.at.result.0 (cell_prefix c.dims-2.result c.args.part.now.shared.now)
+          (on_path c.dims.builder.arena.now c.dims.path c.args.part.now.shared.now c.dims.dim c.dims-2.result c.at.result.0
           c.dims.invariant.stands.path most c.at.ensures)
           c.dims.invariant.stands.next.going.opened c.dims.invariant.stands.next.going.touched;
     }
@@ -106,15 +106,15 @@ drill-returns-clause-done g t c =
     let rows = named table c.args.part.now.rows.now in
     let le : table.dims ≤ c.dims.dim = subst (λ n. n ≤ c.dims.dim) c.dims-dim-end.ensures.value c.dims-test.false in
     let most : c.dims-2.result ≤ c.dims.dim = subst (λ n. n ≤ c.dims.dim) (sym c.dims-2.ensures.value) le in
-    let long = part_long table c.args.part.now.rows.now c.args.part.now.shared c.args.part.now.is in
-    let all : length c.args.part.now.shared ≤ c.dims-2.result = omega (arith, long, c.dims-2.ensures.value) in
-    let at = on_path c.dims.builder.arena.now c.dims.path c.args.part.now.shared c.dims.dim c.dims-2.result
+    let long = part_long table c.args.part.now.rows.now c.args.part.now.shared.now c.args.part.now.is in
+    let all : length c.args.part.now.shared.now ≤ c.dims-2.result = omega (arith, long, c.dims-2.ensures.value) in
+    let at = on_path c.dims.builder.arena.now c.dims.path c.args.part.now.shared.now c.dims.dim c.dims-2.result
     c.at.result.0 c.dims.invariant.stands.path most c.at.ensures
-    ∙ ap (λ u. Some u) (cell_prefix_all c.dims-2.result c.args.part.now.shared all ∙ c.args.part.now.is.shared) in
+    ∙ ap (λ u. Some u) (cell_prefix_all c.dims-2.result c.args.part.now.shared.now all ∙ c.args.part.now.is.shared) in
     c.dims.invariant.whole c.mark_class.new.arena c.dims.builder.fronts.now (record {
       does = subst (λ xs. PerformsActs table.measures (rows_of table) xs c.dims.builder.arena.now
           c.mark_class.new.arena)
-          (ap (λ a. Mark (shared_by rows) a ∷ []) c.total-agg.ensures ∙ sym (acts_end table c.dims.dim rows le))
+          (ap (λ a. Mark (shared_by rows) a ∷ []) c.total.ensures ∙ sym (acts_end table c.dims.dim rows le))
           (c.mark_class.ensures.made table.measures (rows_of table) (shared_by rows) at);
       fronts = noted_stay table c.dims.builder.arena.now c.mark_class.new.arena c.dims.builder.fronts.now
           (c.mark_class.ensures.made 0 [] (shared_by rows) at).cells c.dims.invariant.stands.fronts;
@@ -123,7 +123,7 @@ drill-returns-clause-done g t c =
 pub drill_at-get-requires : goal.drill_at-get-requires
 drill_at-get-requires g t c
     = subst (λ n. c.args.dim < n)
-    (sym (part_long c.args.part.now.table.now c.args.part.now.rows.now c.args.part.now.shared c.args.part.now.is))
+    (sym (part_long c.args.part.now.table.now c.args.part.now.rows.now c.args.part.now.shared.now c.args.part.now.is))
     c.requires.below
 
 pub drill_at-add_prefix_node-requires-clause-value : goal.drill_at-add_prefix_node-requires-clause-value
@@ -132,8 +132,8 @@ drill_at-add_prefix_node-requires-clause-value g t c = sym c.in-Is.ensures.value
 pub drill_at-add_prefix_node-requires-clause-stands : goal.drill_at-add_prefix_node-requires-clause-stands
 drill_at-add_prefix_node-requires-clause-stands g t c = record {
   below = c.requires.below;
-  at = subst (λ o. StandsAt c.args.part.now.table.now c.args.part.now.shared c.args.dim
-      (acts_at (acts_from c.args.part.now.table.now (c.args.dim + 1)) c.args.dim c.args.part.now.shared o
+  at = subst (λ o. StandsAt c.args.part.now.table.now c.args.part.now.shared.now c.args.dim
+      (acts_at (acts_from c.args.part.now.table.now (c.args.dim + 1)) c.args.dim c.args.part.now.shared.now o
       (named c.args.part.now.table.now c.args.part.now.rows.now)) c.args.builder.now.arena.now c.args.path.now
       c.args.builder.now.fronts.now) (sym c.in-Is.ensures.value) c.requires.at;
 }
@@ -142,7 +142,7 @@ pub drill_at-returns-in-Is-clause-done : goal.drill_at-returns-in-Is-clause-done
 drill_at-returns-in-Is-clause-done g t c =
     subst (λ o. OnOk c.add_prefix_node.result
     (HasDone c.args.part.now.table.now
-    (acts_at (acts_from c.args.part.now.table.now (c.args.dim + 1)) c.args.dim c.args.part.now.shared o
+    (acts_at (acts_from c.args.part.now.table.now (c.args.dim + 1)) c.args.dim c.args.part.now.shared.now o
     (named c.args.part.now.table.now c.args.part.now.rows.now)) c.args.builder.now.arena.now
     c.add_prefix_node.new.builder.arena.now c.add_prefix_node.new.builder.fronts.now)) c.in-Is.ensures.value
     c.add_prefix_node.ensures.done
@@ -154,8 +154,8 @@ drill_at-drill_in-requires g t c = λ κs h. (
     h,
     record {
       below = c.requires.below;
-      at = subst (λ o. StandsAt c.args.part.now.table.now c.args.part.now.shared c.args.dim
-          (acts_at (acts_from c.args.part.now.table.now (c.args.dim + 1)) c.args.dim c.args.part.now.shared o
+      at = subst (λ o. StandsAt c.args.part.now.table.now c.args.part.now.shared.now c.args.dim
+          (acts_at (acts_from c.args.part.now.table.now (c.args.dim + 1)) c.args.dim c.args.part.now.shared.now o
           (named c.args.part.now.table.now c.args.part.now.rows.now)) c.args.builder.now.arena.now c.args.path.now
           c.args.builder.now.fronts.now) (sym c.in-Any.ensures.value) c.requires.at;
     },
@@ -165,24 +165,24 @@ drill_at-drill_in-requires g t c = λ κs h. (
 pub drill_at-returns-in-Ok-clause-done : goal.drill_at-returns-in-Ok-clause-done
 drill_at-returns-in-Ok-clause-done g t c =
     subst (λ o. HasDone c.args.part.now.table.now
-    (acts_at (acts_from c.args.part.now.table.now (c.args.dim + 1)) c.args.dim c.args.part.now.shared o
+    (acts_at (acts_from c.args.part.now.table.now (c.args.dim + 1)) c.args.dim c.args.part.now.shared.now o
     (named c.args.part.now.table.now c.args.part.now.rows.now)) c.args.builder.now.arena.now
     c.drill_in.new.builder.arena.now c.drill_in.new.builder.fronts.now) c.in-Any.ensures.value c.in-Ok.ensures.done
 
 pub drill_at-returns-in-Ok-clause-path : goal.drill_at-returns-in-Ok-clause-path
 drill_at-returns-in-Ok-clause-path g t c =
     let on = path_stays c.args.builder.now.arena.now c.drill_in.new.builder.arena.now c.args.path.now
-    c.args.part.now.shared c.args.dim c.in-Ok.ensures.done.does.cells c.requires.at.path in
-    path_on c.drill_in.new.builder.arena.now c.args.path.now c.set.new.self c.args.part.now.shared c.args.dim on
+    c.args.part.now.shared.now c.args.dim c.in-Ok.ensures.done.does.cells c.requires.at.path in
+    path_on c.drill_in.new.builder.arena.now c.args.path.now c.set.new.self c.args.part.now.shared.now c.args.dim on
     c.set.ensures.others
-    (on_end c.drill_in.new.builder.arena.now c.args.path.now c.args.part.now.shared c.args.dim
+    (on_end c.drill_in.new.builder.arena.now c.args.path.now c.args.part.now.shared.now c.args.dim
     (node_on c.set.new.self (c.args.dim + 1)) on (c.set.ensures.here ∙ c.at.ensures)
-    ∙ ap (λ p. Some p) (sym (cell_prefix_still c.args.dim c.args.part.now.shared (sym c.in-Any.ensures.value))))
+    ∙ ap (λ p. Some p) (sym (cell_prefix_still c.args.dim c.args.part.now.shared.now (sym c.in-Any.ensures.value))))
 
 pub drill_in-groups_of-requires-clause-node : goal.drill_in-groups_of-requires-clause-node
 drill_in-groups_of-requires-clause-node g t c
-    = lists.there c.args.builder.now.arena.now.now c.at.result.0 (cell_prefix c.args.dim c.args.part.now.shared)
-    (on_end c.args.builder.now.arena.now c.args.path.now c.args.part.now.shared c.args.dim c.at.result.0
+    = lists.there c.args.builder.now.arena.now.now c.at.result.0 (cell_prefix c.args.dim c.args.part.now.shared.now)
+    (on_end c.args.builder.now.arena.now c.args.path.now c.args.part.now.shared.now c.args.dim c.at.result.0
     c.requires.at.path c.at.ensures)
 
 -- the rows of a part are a group
@@ -210,11 +210,11 @@ drill_in-invariant_of-group g t c =
               (part_some table c.args.part.now.is.table nos here c.args.dim c.parts.k lt);
           there = recursion_all (λ n. is_some (row_at table n.0) ≡ true) c.rows.result.now
               (subst (There table) (sym is) (part_there table c.args.part.now.is.table nos here c.args.dim c.parts.k lt));
-          covered = subst (λ r. AreCovered c.args.part.now.shared (named table r)) (sym is)
-              (part_covered table c.args.part.now.is.table nos here c.args.dim c.parts.k lt c.args.part.now.shared
+          covered = subst (λ r. AreCovered c.args.part.now.shared.now (named table r)) (sym is)
+              (part_covered table c.args.part.now.is.table nos here c.args.dim c.parts.k lt c.args.part.now.shared.now
               (shared_there table c.args.part.now.is.table nos here c.args.part.now.is.some
               ∙ ap (λ u. Some u) (sym c.args.part.now.is.shared)));
-          long = part_long table nos c.args.part.now.shared c.args.part.now.is;
+          long = part_long table nos c.args.part.now.shared.now c.args.part.now.is;
         };
         few = let most = c.args.part.now.is.few in omega (arith, few, most);
         dim = c.requires.below;
@@ -239,21 +239,21 @@ drill_in-drill_part-requires g t c =
     = c.code.ensures ∙ ap (λ p. (get_or p c.parts.k no_part).code) c.in-Ok.ensures.parts in
     let here : There table nos = there table nos c.args.part.now.is.there in
     let more = acts_from table (c.args.dim + 1) in
-    let acts = ap₂ (λ x r. part_acts more c.args.dim c.args.part.now.shared x (named table r)) (sym code) (sym is) in
+    let acts = ap₂ (λ x r. part_acts more c.args.dim c.args.part.now.shared.now x (named table r)) (sym code) (sym is) in
     let part = get_or (parted table nos c.args.dim) c.parts.k no_part in
     let stands = stands_prefix table
-    (part_acts more c.args.dim c.args.part.now.shared part.code (named table part.rows))
-    (parts_from table c.args.dim c.args.part.now.shared (named table nos) (c.parts.k + 1)) c.args.part.now.shared
+    (part_acts more c.args.dim c.args.part.now.shared.now part.code (named table part.rows))
+    (parts_from table c.args.dim c.args.part.now.shared.now (named table nos) (c.parts.k + 1)) c.args.part.now.shared.now
     c.args.dim c.parts.builder.arena.now c.args.path.now c.parts.builder.fronts.now
-    (subst (λ xs. StandsAt table c.args.part.now.shared c.args.dim xs c.parts.builder.arena.now c.args.path.now
+    (subst (λ xs. StandsAt table c.args.part.now.shared.now c.args.dim xs c.parts.builder.arena.now c.args.path.now
     c.parts.builder.fronts.now)
-    (parts_here table c.args.part.now.is.table nos here c.args.dim c.parts.k lt c.args.part.now.shared)
+    (parts_here table c.args.part.now.is.table nos here c.args.dim c.parts.k lt c.args.part.now.shared.now)
     c.parts.invariant.stands) in
     λ κs h. (
       search rules,
       (
         h,
-        subst (λ xs. StandsAt table c.args.part.now.shared c.args.dim xs c.parts.builder.arena.now c.args.path.now
+        subst (λ xs. StandsAt table c.args.part.now.shared.now c.args.dim xs c.parts.builder.arena.now c.args.path.now
             c.parts.builder.fronts.now) acts stands,
       ),
     )
@@ -271,22 +271,22 @@ drill_in-parts-preserved g t c =
     = c.code.ensures ∙ ap (λ p. (get_or p c.parts.k no_part).code) c.in-Ok.ensures.parts in
     let here : There table nos = there table nos c.args.part.now.is.there in
     let more = acts_from table (c.args.dim + 1) in
-    let es = part_acts more c.args.dim c.args.part.now.shared c.code.result (named table c.rows.result.now) in
-    let fs = parts_from table c.args.dim c.args.part.now.shared (named table nos) (c.parts.k + 1) in
-    let split = parts_here table c.args.part.now.is.table nos here c.args.dim c.parts.k lt c.args.part.now.shared
-    ∙ ap₂ (λ x r. part_acts more c.args.dim c.args.part.now.shared x (named table r) ++ fs) (sym code) (sym is) in
+    let es = part_acts more c.args.dim c.args.part.now.shared.now c.code.result (named table c.rows.result.now) in
+    let fs = parts_from table c.args.dim c.args.part.now.shared.now (named table nos) (c.parts.k + 1) in
+    let split = parts_here table c.args.part.now.is.table nos here c.args.dim c.parts.k lt c.args.part.now.shared.now
+    ∙ ap₂ (λ x r. part_acts more c.args.dim c.args.part.now.shared.now x (named table r) ++ fs) (sym code) (sym is) in
     let a = c.parts.builder.arena.now in
     let b = c.drill_part.new.builder.arena.now in
     record {
       whole = λ d f e. c.parts.invariant.whole d f
           (subst (λ xs. HasDone table xs a d f) (sym split)
           (done_then table es fs a b d c.drill_part.new.builder.fronts.now f c.in-Ok-drill_part.ensures.done e));
-      stands = stands_behind table es fs c.args.part.now.shared c.args.part.now.shared c.args.dim c.args.dim a b
+      stands = stands_behind table es fs c.args.part.now.shared.now c.args.part.now.shared.now c.args.dim c.args.dim a b
           c.args.path.now c.args.path.now c.parts.builder.fronts.now c.drill_part.new.builder.fronts.now
-          (subst (λ xs. StandsAt table c.args.part.now.shared c.args.dim xs a c.args.path.now
+          (subst (λ xs. StandsAt table c.args.part.now.shared.now c.args.dim xs a c.args.path.now
           c.parts.builder.fronts.now) split c.parts.invariant.stands) c.in-Ok-drill_part.ensures.done
           c.in-Ok-drill_part.ensures.frame
-          (path_stays a b c.args.path.now c.args.part.now.shared c.args.dim c.in-Ok-drill_part.ensures.done.does.cells
+          (path_stays a b c.args.path.now c.args.part.now.shared.now c.args.dim c.in-Ok-drill_part.ensures.done.does.cells
           c.parts.invariant.stands.path);
       rest = c.in-Ok-drill_part.ensures.frame ∙ c.parts.invariant.rest;
       same = c.in-Ok-drill_part.ensures.same ∙ c.parts.invariant.same;
@@ -305,7 +305,7 @@ drill_in-returns-in-Ok-give_back-clause-done g t c =
     c.parts.invariant.whole c.parts.builder.arena.now c.parts.builder.fronts.now
     (subst (λ xs. HasDone table xs c.parts.builder.arena.now c.parts.builder.arena.now c.parts.builder.fronts.now)
     (sym (parts_end table c.args.part.now.is.table nos (there table nos c.args.part.now.is.there) c.args.dim c.parts.k
-    c.args.part.now.shared le))
+    c.args.part.now.shared.now le))
     (done_nothing table c.parts.builder.arena.now c.parts.builder.fronts.now c.parts.invariant.stands.fronts))
 
 -- what comes next for a part with its own node
@@ -315,8 +315,8 @@ drill_part-add_prefix_node-requires-clause-stands g t c =
     let part = named table c.args.group.now.rows.now in
     let more = acts_from table (c.args.group.now.dim + 1) in
     let split = part_new more c.args.group.now.dim c.args.group.now.upper.now c.args.group.now.code part c.in-None.ensures.none
-    ∙ ap (λ s. prefix_acts false s c.args.group.now.dim c.args.group.now.code ++ more part) (sym c.closure_of_part.ensures) in
-    let s = stands_prefix table (prefix_acts false c.closure_of_part.result c.args.group.now.dim c.args.group.now.code)
+    ∙ ap (λ s. prefix_acts false s c.args.group.now.dim c.args.group.now.code ++ more part) (sym c.close.ensures) in
+    let s = stands_prefix table (prefix_acts false c.close.new.shared c.args.group.now.dim c.args.group.now.code)
     (more part) c.args.group.now.upper.now c.args.group.now.dim c.args.builder.now.arena.now c.args.path.now
     c.args.builder.now.fronts.now
     (subst (λ xs. StandsAt table c.args.group.now.upper.now c.args.group.now.dim xs c.args.builder.now.arena.now c.args.path.now
@@ -326,9 +326,9 @@ drill_part-add_prefix_node-requires-clause-stands g t c =
       at = record {
         width = s.width;
         next = s.next;
-        path = path_of c.args.builder.now.arena.now c.args.path.now c.args.group.now.upper.now c.closure_of_part.result
+        path = path_of c.args.builder.now.arena.now c.args.path.now c.args.group.now.upper.now c.close.new.shared
             c.args.group.now.dim (sym (cell_eq-exact nat_equality _ _ c.in-None.ensures.none)
-            ∙ ap (cell_prefix c.args.group.now.dim) (sym c.closure_of_part.ensures)) s.path;
+            ∙ ap (cell_prefix c.args.group.now.dim) (sym c.close.ensures)) s.path;
         fronts = s.fronts;
       };
     }
@@ -339,9 +339,9 @@ drill_part-drill-requires g t c =
     let part = named table c.args.group.now.rows.now in
     let more = acts_from table (c.args.group.now.dim + 1) in
     let split = part_new more c.args.group.now.dim c.args.group.now.upper.now c.args.group.now.code part c.in-None.ensures.none
-    ∙ ap (λ s. prefix_acts false s c.args.group.now.dim c.args.group.now.code ++ more part) (sym c.closure_of_part.ensures) in
-    let stands = stands_behind table (prefix_acts false c.closure_of_part.result c.args.group.now.dim c.args.group.now.code)
-    (more part) c.args.group.now.upper.now c.closure_of_part.result c.args.group.now.dim
+    ∙ ap (λ s. prefix_acts false s c.args.group.now.dim c.args.group.now.code ++ more part) (sym c.close.ensures) in
+    let stands = stands_behind table (prefix_acts false c.close.new.shared c.args.group.now.dim c.args.group.now.code)
+    (more part) c.args.group.now.upper.now c.close.new.shared c.args.group.now.dim
     (c.args.group.now.dim + 1) c.args.builder.now.arena.now c.add_prefix_node.new.builder.arena.now c.args.path.now
     c.add_prefix_node.new.path c.args.builder.now.fronts.now c.add_prefix_node.new.builder.fronts.now
     (subst (λ xs. StandsAt table c.args.group.now.upper.now c.args.group.now.dim xs c.args.builder.now.arena.now c.args.path.now
@@ -355,11 +355,11 @@ drill_part-returns-in-Ok-add_prefix_node-clause-done g t c =
     let part = named table c.args.group.now.rows.now in
     let more = acts_from table (c.args.group.now.dim + 1) in
     let split = part_new more c.args.group.now.dim c.args.group.now.upper.now c.args.group.now.code part c.in-None.ensures.none
-    ∙ ap (λ s. prefix_acts false s c.args.group.now.dim c.args.group.now.code ++ more part) (sym c.closure_of_part.ensures) in
+    ∙ ap (λ s. prefix_acts false s c.args.group.now.dim c.args.group.now.code ++ more part) (sym c.close.ensures) in
     on_ok_weaker c.drill.result
     (λ e. subst (λ xs. HasDone table xs c.args.builder.now.arena.now c.drill.new.builder.arena.now
     c.drill.new.builder.fronts.now) (sym split)
-    (done_then table (prefix_acts false c.closure_of_part.result c.args.group.now.dim c.args.group.now.code)
+    (done_then table (prefix_acts false c.close.new.shared c.args.group.now.dim c.args.group.now.code)
     (more part) c.args.builder.now.arena.now c.add_prefix_node.new.builder.arena.now c.drill.new.builder.arena.now
     c.add_prefix_node.new.builder.fronts.now c.drill.new.builder.fronts.now c.in-Ok-add_prefix_node.ensures.done e))
     c.drill.ensures.done
@@ -392,14 +392,14 @@ drill_part-returns-in-Ok-clause-done g t c =
 pub drill_in-parts-init : goal.drill_in-parts-init
 drill_in-parts-init g t c = record {
   whole = λ b f d. subst (λ (a : Arena). HasDone c.args.part.now.table.now
-      (acts_at (acts_from c.args.part.now.table.now (c.args.dim + 1)) c.args.dim c.args.part.now.shared None
+      (acts_at (acts_from c.args.part.now.table.now (c.args.dim + 1)) c.args.dim c.args.part.now.shared.now None
       (named c.args.part.now.table.now c.args.part.now.rows.now)) a b f) c.groups_of.ensures.arena d;
-  stands = subst (λ (a : Arena). StandsAt c.args.part.now.table.now c.args.part.now.shared c.args.dim
-      (acts_at (acts_from c.args.part.now.table.now (c.args.dim + 1)) c.args.dim c.args.part.now.shared None
+  stands = subst (λ (a : Arena). StandsAt c.args.part.now.table.now c.args.part.now.shared.now c.args.dim
+      (acts_at (acts_from c.args.part.now.table.now (c.args.dim + 1)) c.args.dim c.args.part.now.shared.now None
       (named c.args.part.now.table.now c.args.part.now.rows.now)) a c.args.path.now c.groups_of.new.builder.fronts.now)
       (sym c.groups_of.ensures.arena)
-      (subst (λ (f : PrefixNodes). StandsAt c.args.part.now.table.now c.args.part.now.shared c.args.dim
-      (acts_at (acts_from c.args.part.now.table.now (c.args.dim + 1)) c.args.dim c.args.part.now.shared None
+      (subst (λ (f : PrefixNodes). StandsAt c.args.part.now.table.now c.args.part.now.shared.now c.args.dim
+      (acts_at (acts_from c.args.part.now.table.now (c.args.dim + 1)) c.args.dim c.args.part.now.shared.now None
       (named c.args.part.now.table.now c.args.part.now.rows.now)) c.args.builder.now.arena.now c.args.path.now f)
       (sym c.groups_of.ensures.fronts) c.requires.at);
   rest = ap frame c.groups_of.ensures.arena;
@@ -409,7 +409,7 @@ drill_in-parts-init g t c = record {
 }
 
 pub drill_part-add_prefix_node-requires-clause-value : goal.drill_part-add_prefix_node-requires-clause-value
-drill_part-add_prefix_node-requires-clause-value g t c = ap (λ u. entry u c.args.group.now.dim) c.closure_of_part.ensures
+drill_part-add_prefix_node-requires-clause-value g t c = ap (λ u. entry u c.args.group.now.dim) c.close.ensures
     ∙ c.args.group.now.is.value
 
 pub drill_part-invariant_of-edge : goal.drill_part-invariant_of-edge
@@ -427,14 +427,14 @@ pub drill_at-returns-in-Is-clause-steps : goal.drill_at-returns-in-Is-clause-ste
 drill_at-returns-in-Is-clause-steps g t c =
     let table = c.args.part.now.table.now in
     let cost = ap (λ o. cost_of_acts table.dims (acts_at (acts_from table (c.args.dim + 1)) c.args.dim
-    c.args.part.now.shared o (named table c.args.part.now.rows.now))) c.in-Is.ensures.value in
+    c.args.part.now.shared.now o (named table c.args.part.now.rows.now))) c.in-Is.ensures.value in
     ok_always c.add_prefix_node.result (omega (arith, c.add_prefix_node.ensures.steps, cost, c.requires.below))
 
 pub drill_at-returns-in-Ok-clause-steps : goal.drill_at-returns-in-Ok-clause-steps
 drill_at-returns-in-Ok-clause-steps g t c =
     let table = c.args.part.now.table.now in
     let cost = ap (λ o. cost_of_acts table.dims (acts_at (acts_from table (c.args.dim + 1)) c.args.dim
-    c.args.part.now.shared o (named table c.args.part.now.rows.now))) c.in-Any.ensures.value in
+    c.args.part.now.shared.now o (named table c.args.part.now.rows.now))) c.in-Any.ensures.value in
     omega (arith, c.in-Ok.ensures.steps, cost)
 
 pub drill_in-returns-in-Ok-give_back-clause-steps : goal.drill_in-returns-in-Ok-give_back-clause-steps

@@ -29,7 +29,7 @@ invariant-drill-dims g l = record {
       l.builder.arena.now c f
       → HasDone l.part.table.now (acts_from l.part.table.now l.first (named l.part.table.now l.part.rows.now))
       l.fn.builder.arena.now c f;
-  stands : StandsAt l.part.table.now l.part.shared l.dim
+  stands : StandsAt l.part.table.now l.part.shared.now l.dim
       (acts_from l.part.table.now l.dim (named l.part.table.now l.part.rows.now)) l.builder.arena.now l.path
       l.builder.fronts.now;
   rest : frame l.builder.arena.now ≡ frame l.fn.builder.arena.now;
@@ -45,19 +45,19 @@ abbrev pub invariant-drill_in-parts : goal.invariant-drill_in-parts
 invariant-drill_in-parts g l = record {
   whole : (c : Arena) (f : PrefixNodes)
       → HasDone l.part.table.now
-      (parts_from l.part.table.now l.dim l.part.shared (named l.part.table.now l.part.rows.now) l.k)
+      (parts_from l.part.table.now l.dim l.part.shared.now (named l.part.table.now l.part.rows.now) l.k)
       l.builder.arena.now c f
-      → HasDone l.part.table.now (acts_at (acts_from l.part.table.now (l.dim + 1)) l.dim l.part.shared None
+      → HasDone l.part.table.now (acts_at (acts_from l.part.table.now (l.dim + 1)) l.dim l.part.shared.now None
       (named l.part.table.now l.part.rows.now)) l.fn.builder.arena.now c f;
-  stands : StandsAt l.part.table.now l.part.shared l.dim
-      (parts_from l.part.table.now l.dim l.part.shared (named l.part.table.now l.part.rows.now) l.k) l.builder.arena.now
+  stands : StandsAt l.part.table.now l.part.shared.now l.dim
+      (parts_from l.part.table.now l.dim l.part.shared.now (named l.part.table.now l.part.rows.now) l.k) l.builder.arena.now
       l.path l.builder.fronts.now;
   rest : frame l.builder.arena.now ≡ frame l.fn.builder.arena.now;
   same : l.builder.arena.ghost_name ≡ l.fn.builder.arena.ghost_name;
   same_steps : l.builder.steps.ghost_name ≡ l.fn.builder.steps.ghost_name;
   steps : l.builder.steps.now + cost_of_acts l.part.table.now.dims
-      (parts_from l.part.table.now l.dim l.part.shared (named l.part.table.now l.part.rows.now) l.k)
+      (parts_from l.part.table.now l.dim l.part.shared.now (named l.part.table.now l.part.rows.now) l.k)
       ≤ l.fn.builder.steps.now + cost_of_acts l.part.table.now.dims
-      (acts_at (acts_from l.part.table.now (l.dim + 1)) l.dim l.part.shared None
+      (acts_at (acts_from l.part.table.now (l.dim + 1)) l.dim l.part.shared.now None
       (named l.part.table.now l.part.rows.now));
 }

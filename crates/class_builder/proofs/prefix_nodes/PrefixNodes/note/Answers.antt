@@ -16,7 +16,7 @@ rows-preserved c = λ a h at.
           let within : c.args.dim < t.dims = omega (arith, c.requires.dim, c.requires.dims, h.dims) in
           subst (λ f. ArePrefixNodes t a f) (sym w.self-is)
           (noted_more t a c.rows.self _ c.args.dim c.place-place.result c.args.node within c.place-place.ensures lt
-          (prefix_of_row t a nos c.args.part.now.shared c.rows.row-index c.args.dim c.args.node.0 _
+          (prefix_of_row t a nos c.args.part.now.shared.now c.rows.row-index c.args.dim c.args.node.0 _
           c.args.part.now.is.table (there t nos c.args.part.now.is.there) c.args.part.now.is.some c.args.part.now.is.shared
           (c.is_full.ensures c.if-is_full.true) c.rows-test.true at) old)
       | in_default w ↦ subst (λ f. ArePrefixNodes t a f) (sym w.self-is) old

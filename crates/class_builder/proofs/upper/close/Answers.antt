@@ -1,10 +1,10 @@
-use Rattle.std.proofs.Common.{◌≡◌, ◌≤◌, ◌∙◌, sym, ap, get_or, is_some, true, Some, arith}
+use Rattle.std.proofs.Common.{◌≡◌, ◌≤◌, ◌∙◌, sym, ap, get_or, is_some, length, true, Some, arith}
 use Rattle.base_table.specs.Places.{row_at}
 use Rattle.cell_closure.specs.Parts.{code_at}
 use Rattle.cube_laws.proofs.CallerLemmas.{entry}
 use Rattle.cell_closure.proofs.CallerLemmas.{there, code_is, zeroth, first_share, closing_step, closing_end}
 use Rattle.class_builder.proofs.Uppers.{prefix_at}
-use Rattle.class_builder.proofs.upper.closure_of_part.Goals as goal
+use Rattle.class_builder.proofs.upper.close.Goals as goal
 
 pub dims-init : goal.dims-init
 dims-init c =
@@ -18,13 +18,13 @@ dims-init c =
     c.code.ensures.value in
     let s = closing_step table group.under.table nos
     (there table nos group.under.there) group.under.some dim
-    (Some c.code.result) c.copy-next.result c.set.new.self group.dim
+    (Some c.code.result) c.args.shared.now c.set.new.self group.dim
     (sym (first_share table group.under.table nos
     (there table nos group.under.there) group.under.some dim c.code.result code (ap is_some group.value)))
     (record {
-      long = c.copy-next.ensures.dims ∙ group.under.long;
-      done = λ j l. ap (λ d. entry d j) c.copy-next.ensures.value
-          ∙ sym (prefix_at dim j _ c.args.group.now.upper.now c.requires l);
+      long = ap length c.requires.upper ∙ group.under.long;
+      done = λ j l. ap (λ d. entry d j) c.requires.upper
+          ∙ sym (prefix_at dim j _ c.args.group.now.upper.now c.requires.front l);
     })
     c.set.ensures.value in
     record { long = s.long; done = s.done }
@@ -36,5 +36,5 @@ returns c =
     let nos = c.args.group.now.rows.now in
     let le : table.dims ≤ c.dims.i = omega arith in
     closing_end table group.under.table nos
-    (there table nos group.under.there) group.under.some c.dims.i c.dims.next le
+    (there table nos group.under.there) group.under.some c.dims.i c.dims.shared le
     (record { long = c.dims.invariant.long; done = c.dims.invariant.done })
