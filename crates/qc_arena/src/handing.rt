@@ -8,7 +8,6 @@ ghost use Rattle.qc_arena.specs.Map.{bare};
 ghost use Rattle.qc_arena.specs.RecordReaders.{record_or};
 
 use crate::Memory;
-use crate::edges::PlainEdge;
 use crate::node_store::NodeStore;
 use crate::nodes::Forced;
 use cell_core::NodeNo;
@@ -73,12 +72,7 @@ pub(crate) fn hand_down_at(nodes: &mut NodeStore, node: u32, dim: u8) -> Result<
         Ok(child) => child,
         Err(error) => return Err(error),
     };
-    let edge = PlainEdge {
-        dim,
-        code: 0,
-        target: child,
-    };
-    match nodes.set_edge(node, edge) {
+    match nodes.set_edge(node, dim, 0, child) {
         Ok((had, has)) => {
             nodes.move_class(node, child);
             let forced = Forced {

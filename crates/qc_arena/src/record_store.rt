@@ -142,15 +142,17 @@ fn put_own(
     records: &mut Slab<KeptRecord>,
     lists: &mut EdgeLists,
     node: u32,
-    edge: PlainEdge,
+    dim: u8,
+    code: Code,
+    target: u32,
 ) -> (u32, u32)
     requires node { IsSome (join (slots.get (nodes_of records.old lists.old) node)) }
     requires unlisted { IfSome (slots.get records.old node) (λ h. h.place ≡ None) }
-    requires code { IsCode edge.code }
+    requires code { IsCode code }
     requires listed { AreListed records.old lists.old }
     ensures listed { AreListed records.new lists.new }
     ensures here { slots.get (nodes_of records.new lists.new) node
-        ≡ option_map (option_map (with_edge (edge_in edge)))
+        ≡ option_map (option_map (with_edge (record { dim = dim; value = code; target = target })))
         (slots.get (nodes_of records.old lists.old) node) }
     ensures had { result.0 ≡ length (record_or
         (join (slots.get (nodes_of records.old lists.old) node))).edges }
@@ -159,6 +161,7 @@ fn put_own(
     ensures others { (q : ℕ) → q ≢ node → slots.get (nodes_of records.new lists.new) q
         ≡ slots.get (nodes_of records.old lists.old) q }
 {
+    let edge = PlainEdge { dim, code, target };
     if records[node as usize].try_only(edge) {
         return (0, 1);
     }
@@ -194,7 +197,7 @@ fn put_at(
 {
     match records[node as usize].place() {
         Some(place) => lists.put(place, edge),
-        None => Ok(put_own(records, lists, node, edge)),
+        None => Ok(put_own(records, lists, node, edge.dim, edge.code, edge.target)),
     }
 }
 
@@ -216,8 +219,7 @@ fn give_edges(records: &mut Slab<KeptRecord>, lists: &mut EdgeLists, node: u32, 
         0 => {}
         1 => {
             let (dim, code, child) = list.at(0);
-            let target = child.0;
-            put_own(records, lists, node, PlainEdge { dim, code, target });
+            put_own(records, lists, node, dim, code, child.0);
         }
         _ => store_list(records, lists, node, list),
     }
