@@ -387,7 +387,7 @@ impl QcArena {
     {
         steps.tick();
         let had = self.nodes.is_class(node.0);
-        self.nodes.set_class(node.0, class);
+        self.nodes.set_class(node.0, &class);
         self.kept = self.kept.with_class(had, class.is_some());
     }
 

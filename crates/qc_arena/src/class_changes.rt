@@ -37,6 +37,26 @@ fn count_in_place(nodes: &NodeStore, place: u32) -> u32
     0
 }
 
+// COUNT of the class of a before-image. 0 if it was none.
+fn count_in_image(was: Option<&Record>) -> u32
+    ensures { result ≡ count_in (class_in (option_copied was.entry)) }
+{
+    match was {
+        Some(record) => record.count(),
+        None => 0,
+    }
+}
+
+// The class of a before-image, if it was one.
+fn class_in_image(was: Option<&Record>) -> Option<Agg>
+    ensures { option_map agg_in result ≡ class_in (option_copied was.entry) }
+{
+    match was {
+        Some(record) => record.class(),
+        None => None,
+    }
+}
+
 // The class of a touched node, if it has one: now, or in its before-image.
 fn class_on_side(nodes: &NodeStore, node: u32, was: Option<&Record>, now: bool) -> Option<Agg>
     ensures { option_map agg_in result
@@ -45,43 +65,46 @@ fn class_on_side(nodes: &NodeStore, node: u32, was: Option<&Record>, now: bool) 
     if now {
         return class_in_place(nodes, node);
     }
-    match was {
-        Some(record) => record.class(),
-        None => None,
+    class_in_image(was)
+}
+
+// Whether two classes have the same aggregate. No class is the same as none.
+fn is_same_class(class: &Option<Agg>, other: &Option<Agg>) -> bool
+    ensures same { result ≡ true → option_map agg_in class.now ≡ option_map agg_in other.now }
+    ensures apart { result ≡ false → option_map agg_in class.now ≢ option_map agg_in other.now }
+{
+    match class {
+        None => other.is_none(),
+        Some(agg) => match other {
+            None => false,
+            Some(other) => same_agg(agg, other),
+        },
     }
 }
 
-// COUNT of the class of a touched node: now, or in its before-image. 0 if it has none.
-fn count_on_side(nodes: &NodeStore, node: u32, was: Option<&Record>, now: bool) -> u32
-    ensures { result
-        ≡ count_in (class_on_side (option_copied was.entry) (join (slots.get nodes.now node)) now) }
+// Whether a touched node has the class of its before-image. Builds both.
+#[inline(never)]
+fn has_class_of(nodes: &NodeStore, node: u32, was: Option<&Record>) -> bool
+    ensures same { result ≡ true → class_in (join (slots.get nodes.now node))
+        ≡ class_in (option_copied was.entry) }
+    ensures other { result ≡ false → class_in (join (slots.get nodes.now node))
+        ≢ class_in (option_copied was.entry) }
 {
-    if now {
-        return count_in_place(nodes, node);
-    }
-    match was {
-        Some(record) => record.count(),
-        None => 0,
-    }
+    is_same_class(&class_in_place(nodes, node), &class_in_image(was))
 }
 
-// Whether this is the class of a touched node: now, or in its before-image. Equal classes have one
-// COUNT. So the other class is built only if its COUNT is this one.
-fn is_on_side(class: &Agg, nodes: &NodeStore, node: u32, was: Option<&Record>, now: bool) -> bool
-    ensures same { result ≡ true →
-        class_on_side (option_copied was.entry) (join (slots.get nodes.now node)) now
-        ≡ Some (agg_in class.now) }
-    ensures other { result ≡ false →
-        class_on_side (option_copied was.entry) (join (slots.get nodes.now node)) now
-        ≢ Some (agg_in class.now) }
+// Whether a touched node has the class of its before-image. Equal classes have one COUNT. So the
+// classes are built only if their COUNT is the same.
+fn is_unchanged(nodes: &NodeStore, node: u32, was: Option<&Record>) -> bool
+    ensures same { result ≡ true → class_in (join (slots.get nodes.now node))
+        ≡ class_in (option_copied was.entry) }
+    ensures other { result ≡ false → class_in (join (slots.get nodes.now node))
+        ≢ class_in (option_copied was.entry) }
 {
-    if count_on_side(nodes, node, was, now) != class.count {
+    if count_in_place(nodes, node) != count_in_image(was) {
         return false;
     }
-    match class_on_side(nodes, node, was, now) {
-        Some(other) => same_agg(&other, class),
-        None => false,
-    }
+    has_class_of(nodes, node, was)
 }
 
 // Appends the pair of a touched node and its class now, if it had another one or none before. For
@@ -101,13 +124,12 @@ fn add_new(
     ensures few { length pairs.new.items ≤ length pairs.old.items + 1 }
     ensures room { vec_capacity pairs.new ≡ vec_capacity pairs.old }
 {
+    if is_unchanged(nodes, node, was) {
+        return;
+    }
     match class_on_side(nodes, node, was, added) {
         None => {}
-        Some(agg) => {
-            if !is_on_side(&agg, nodes, node, was, !added) {
-                pairs.push_reserved((NodeNo(node), agg));
-            }
-        }
+        Some(agg) => pairs.push_reserved((NodeNo(node), agg)),
     }
 }
 

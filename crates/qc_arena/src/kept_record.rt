@@ -287,17 +287,17 @@ impl KeptRecord {
     }
 
     // Sets COUNT and the number of measures. The other parts of the aggregate are stored elsewhere.
-    pub(crate) fn set_class(&mut self, class: Option<Agg>)
-        requires { IfSome class (λ a. length a.parts ≡ MAX_MEASURES) }
+    pub(crate) fn set_class(&mut self, class: &Option<Agg>)
+        requires { IfSome class.now (λ a. length a.parts ≡ MAX_MEASURES) }
         ensures { self.new ≡ record self.old {
           node
-              = with_class (option_map agg_in class) self.old.node;
+              = with_class (option_map agg_in class.now) self.old.node;
         } }
     {
         let none = LabelPath::<u32, Agg>::new();
         match class {
             Some(agg) => {
-                self.noted = none.and(&0, &agg);
+                self.noted = none.and(&0, agg);
                 self.count = agg.count;
                 self.measures = agg.measures;
             }

@@ -53,21 +53,14 @@ impl Model for NodeStore {
     ghost invariant = { λ s. IsStored s.records s.parts };
 }
 
-// Makes room for a node and its parts, and gives its number.
-fn reserve_place(records: &mut RecordStore, parts: &mut MeasureColumns) -> Result<u32, Memory>
-    requires { IsStored records.old parts.old }
-    ensures stored { IsStored records.new parts.new }
-    ensures here { IfOk result (λ k. HasRoom parts.new k) }
-    ensures free { IfOk result (λ k. slots.get records.new k ≡ None) }
-    ensures number { IfOk result (λ k. k ≡ records.new.vacant_key) }
-    ensures slots { records.new.slots ≡ records.old.slots }
+// Makes room for the parts of the next node.
+fn reserve_parts(records: &RecordStore, parts: &mut MeasureColumns) -> Result<(), Memory>
+    requires { IsStored records.now parts.old }
+    ensures stored { IsStored records.now parts.new }
+    ensures here { OnOk result (HasRoom parts.new records.now.vacant_key) }
 {
-    let place = match records.reserve() {
-        Ok(place) => place,
-        Err(error) => return Err(error),
-    };
-    match parts.reserve(place) {
-        Ok(()) => Ok(place),
+    match records.next_number() {
+        Ok(place) => parts.reserve(place),
         Err(error) => Err(error),
     }
 }
@@ -267,8 +260,8 @@ impl NodeStore {
             → slots.get self.new q ≡ slots.get self.old q) }
         ensures err { OnErr result (self.new.slots ≡ self.old.slots) }
     {
-        match reserve_place(&mut self.records, &mut self.parts) {
-            Ok(_) => self.records.insert(new),
+        match reserve_parts(&self.records, &mut self.parts) {
+            Ok(()) => self.records.insert(new),
             Err(error) => Err(error),
         }
     }
@@ -383,14 +376,14 @@ impl NodeStore {
     }
 
     // Sets the aggregate of a node, or marks it as no class.
-    pub(crate) fn set_class(&mut self, node: u32, class: Option<Agg>)
+    pub(crate) fn set_class(&mut self, node: u32, class: &Option<Agg>)
         requires { IsSome (join (slots.get self.old node)) }
         ensures others { (q : ℕ) → q ≢ node → slots.get self.new q ≡ slots.get self.old q }
         ensures here { join (slots.get self.new node)
-            ≡ option_map (with_class (option_map agg_in class))
+            ≡ option_map (with_class (option_map agg_in class.now))
             (join (slots.get self.old node)) }
     {
-        self.parts.put_class(node, &class);
+        self.parts.put_class(node, class);
         self.records.set_class(node, class);
     }
 
@@ -401,7 +394,7 @@ impl NodeStore {
         ensures here { join (slots.get self.new node)
             ≡ option_map (with_class None) (join (slots.get self.old node)) }
     {
-        self.records.set_class(node, None);
+        self.records.set_class(node, &None);
     }
 
     // Moves the class of a node to another node.
@@ -418,7 +411,7 @@ impl NodeStore {
             → slots.get self.new q ≡ slots.get self.old q }
     {
         let class = self.class(from);
-        self.set_class(to, class);
+        self.set_class(to, &class);
         self.clear_class(from);
     }
 }

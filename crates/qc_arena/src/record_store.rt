@@ -564,14 +564,16 @@ impl RecordStore {
         }
     }
 
-    // Makes room for a record, and gives the number that it will have.
-    pub(crate) fn reserve(&mut self) -> Result<u32, Memory>
-        ensures number { IfOk result (λ k. k ≡ self.new.vacant_key) }
-        ensures free { IfOk result (λ k. slots.get self.new k ≡ None) }
-        ensures slots { self.new.slots ≡ self.old.slots }
-        ensures next { self.new.vacant_key ≡ self.old.vacant_key }
+    // The number that the next record will have. Numbers have 32 bits.
+    pub(crate) fn next_number(&self) -> Result<u32, Memory>
+        ensures number { IfOk result (λ k. k ≡ self.now.vacant_key) }
+        ensures free { IfOk result (λ k. slots.get self.now k ≡ None) }
     {
-        reserve_record(&mut self.records, &mut self.lists)
+        let key = self.records.vacant_key();
+        if key >= 4_000_000_000 {
+            return Err(AllocError);
+        }
+        Ok(key as u32)
     }
 
     // Adds a record without edges, and gives its number, which was free.
@@ -584,12 +586,13 @@ impl RecordStore {
             → slots.get self.new q ≡ slots.get self.old q) }
         ensures err { OnErr result (self.new.slots ≡ self.old.slots) }
     {
-        let key = self.records.vacant_key();
-        if key >= 4_000_000_000 || !has_room(&self.records, &self.lists) {
-            return Err(AllocError);
+        match reserve_record(&mut self.records, &mut self.lists) {
+            Ok(key) => {
+                self.records.insert_reserved(new.copy());
+                Ok(key)
+            }
+            Err(error) => Err(error),
         }
-        self.records.insert_reserved(new.copy());
-        Ok(key as u32)
     }
 
     // Frees a place in use.
@@ -687,11 +690,11 @@ impl RecordStore {
     }
 
     // Sets COUNT and the number of measures of a node, or marks it as no class.
-    pub(crate) fn set_class(&mut self, node: u32, class: Option<Agg>)
+    pub(crate) fn set_class(&mut self, node: u32, class: &Option<Agg>)
         requires node { IsSome (join (slots.get self.old node)) }
-        requires four { IfSome class (λ a. length a.parts ≡ MAX_MEASURES) }
+        requires four { IfSome class.now (λ a. length a.parts ≡ MAX_MEASURES) }
         ensures here { join (slots.get self.new node)
-            ≡ option_map (with_class (option_map agg_in class))
+            ≡ option_map (with_class (option_map agg_in class.now))
             (join (slots.get self.old node)) }
         ensures others { (q : ℕ) → q ≢ node → slots.get self.new q ≡ slots.get self.old q }
     {

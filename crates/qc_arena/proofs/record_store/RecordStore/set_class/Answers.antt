@@ -18,10 +18,10 @@ pub returns-clause-here : goal.returns-clause-here
 returns-clause-here c =
     let by = kept_by c.self.inside.records c.self.inside.lists c.self.invariant c.args.node c.index_mut.result.now
     c.set_class.new.self c.index_mut.ensures.value (ap (λ (h : Kept). h.place) c.set_class.ensures)
-    (with_class (option_map agg_in c.args.class)) c.set_class.ensures (λ es n. refl) (λ n. refl) in
-    join_by (with_class (option_map agg_in c.args.class)) _ (slots.get
+    (with_class (option_map agg_in c.args.class.now)) c.set_class.ensures (λ es n. refl) (λ n. refl) in
+    join_by (with_class (option_map agg_in c.args.class.now)) _ (slots.get
     (nodes_of c.self.inside.records c.self.inside.lists) c.args.node) by
-    ∙ ap (λ (s : slots.Slab (Option Known)). option_map (with_class (option_map agg_in c.args.class)) (join
+    ∙ ap (λ (s : slots.Slab (Option Known)). option_map (with_class (option_map agg_in c.args.class.now)) (join
     (slots.get s c.args.node))) c.self.view_is
 
 pub returns-clause-others : goal.returns-clause-others
