@@ -1,9 +1,10 @@
 // The aggregates of the classes, one column for each measure.
-ghost use Rattle.std.specs.Prelude.{IfSome, IsTrue, OnOk, [], if◌then◌else◌, length, nat_eq, slice_index_or, vec_capacity, ℕ, ◌<◌, ◌≡◌, ◌≢◌, ◌≤◌};
+ghost use Rattle.std.specs.Prelude.{IfOk, IfSome, IsTrue, OnOk, [], if◌then◌else◌, length, nat_eq, slice_index_or, vec_capacity, ℕ, ◌<◌, ◌≡◌, ◌≢◌, ◌≤◌};
 ghost use Rattle.aggregates.specs.Bounds.{IsZero, zero_part};
-ghost use Rattle.qc_arena.specs.Parts.{HasRoom, shown};
+ghost use Rattle.qc_arena.specs.Parts.{HasRoom, parts_in, shown};
 
 use crate::Memory;
+use crate::image_parts::ImageParts;
 use aggregates::{Agg, Part};
 use cube_defs::MAX_MEASURES;
 use std::alloc::Global;
@@ -167,6 +168,20 @@ impl MeasureColumns {
             part_at(&self.third, node),
             part_at(&self.fourth, node),
         ]
+    }
+
+    // The parts of a node for a before-image.
+    pub(crate) fn copy(&self, alloc: Global, node: u32) -> Result<ImageParts, Memory>
+        ensures { IfOk result (λ stored. parts_in stored ≡ shown self.now node) }
+    {
+        if self.has_one_column() {
+            let first = part_at(&self.first, node);
+            return Ok(ImageParts {
+                first,
+                others: None,
+            });
+        }
+        ImageParts::of(alloc, &self.at(node))
     }
 
     // Writes the parts of a node.

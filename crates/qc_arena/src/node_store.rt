@@ -18,7 +18,6 @@ ghost use Rattle.qc_arena.specs.RecordReaders.{edge_of, label_lt, number, record
 use crate::Memory;
 use crate::edges::PlainEdge;
 use crate::image::Record;
-use crate::image_parts::ImageParts;
 use crate::kept_record::KeptRecord;
 use crate::measure_columns::MeasureColumns;
 use crate::nodes::Forced;
@@ -237,7 +236,7 @@ impl NodeStore {
             Ok(edges) => edges,
             Err(error) => return Err(error),
         };
-        match ImageParts::of(alloc, &self.parts.at(node)) {
+        match self.parts.copy(alloc, node) {
             Ok(parts) => {
                 let record = self.records.record(node).copy();
                 Ok(Record::new(record, edges, parts))
