@@ -25,6 +25,14 @@ pub(crate) struct ImageParts {
 }
 
 impl ImageParts {
+    // The parts of a node that is no class.
+    pub(crate) fn none() -> ImageParts {
+        ImageParts {
+            first: ZERO,
+            others: None,
+        }
+    }
+
     pub(crate) fn of(
         alloc: Global,
         parts: &[Part; MAX_MEASURES as usize],

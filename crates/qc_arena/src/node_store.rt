@@ -11,13 +11,14 @@ ghost use Rattle.qc_arena.specs.Changes.{count_in};
 ghost use Rattle.qc_arena.specs.Edges.{rises, with_edge, without_edge};
 ghost use Rattle.qc_arena.specs.Inside.{join};
 ghost use Rattle.qc_arena.specs.Map.{bare, with_class, with_forced};
-ghost use Rattle.qc_arena.specs.Parts.{HasRoom, IsStored};
+ghost use Rattle.qc_arena.specs.Parts.{HasRoom, IsShown, IsStored, parts_in};
 ghost use Rattle.qc_arena.specs.Resized.{resized};
 ghost use Rattle.qc_arena.specs.RecordReaders.{edge_of, label_lt, number, record_or};
 
 use crate::Memory;
 use crate::edges::PlainEdge;
 use crate::image::Record;
+use crate::image_parts::ImageParts;
 use crate::kept_record::KeptRecord;
 use crate::measure_columns::MeasureColumns;
 use crate::nodes::Forced;
@@ -227,6 +228,19 @@ impl NodeStore {
         self.records.record(node).child(NodeNo(node), dim, code)
     }
 
+    // A copy of a node's parts. They mean nothing if the node is no class, and aren't read then.
+    fn copy_parts(&self, alloc: Global, node: u32) -> Result<ImageParts, Memory>
+        requires { IsSome (join (slots.get self.now node)) }
+        ensures { IfOk result (λ parts. IfSome
+            (record_or (join (slots.get self.now node))).class
+            (λ a. IsShown (parts_in parts) a)) }
+    {
+        if self.records.record(node).is_class() {
+            return self.parts.copy(alloc, node);
+        }
+        Ok(ImageParts::none())
+    }
+
     // A copy of a node's record and aggregate.
     pub(crate) fn copy(&self, alloc: Global, node: u32) -> Result<Record, Memory>
         requires { IsSome (join (slots.get self.now node)) }
@@ -236,7 +250,7 @@ impl NodeStore {
             Ok(edges) => edges,
             Err(error) => return Err(error),
         };
-        match self.parts.copy(alloc, node) {
+        match self.copy_parts(alloc, node) {
             Ok(parts) => {
                 let record = self.records.record(node).copy();
                 Ok(Record::new(record, edges, parts))
