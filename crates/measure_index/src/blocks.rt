@@ -12,16 +12,16 @@ use cube_defs::Memory;
 use std::alloc::{AllocError, Global};
 
 /// A block with so many keys is split before another one comes into it.
-const MOST: usize = 128;
+const MOST: usize = 64;
 
 /// How many keys stay in a block that is split.
-const HALF: usize = 64;
+const HALF: usize = 32;
 
 /// How many keys a block has that is made together with others.
-const FILLED: usize = 96;
+const FILLED: usize = 48;
 
 /// A block with fewer keys is joined with the next one if that leaves room.
-const FEWEST: usize = 16;
+const FEWEST: usize = 8;
 
 /// Where a key stands or would stand: the number of its block, its place there, and whether it is
 /// there.
@@ -126,7 +126,7 @@ fn split(alloc: Global, blocks: &mut Vec<Vec<Key>>, at: usize) -> Result<(), Mem
     requires are { AreBlocks blocks.old.items }
     requires within { at < length blocks.old.items }
     requires long { (d : Vec Key Global)
-        → 64 < length (slice_index_or blocks.old.items at d).items }
+        → 32 < length (slice_index_or blocks.old.items at d).items }
     ensures are { AreBlocks blocks.new.items }
     ensures same { joined blocks.new.items ≡ joined blocks.old.items }
     ensures some { 0 < length blocks.new.items }

@@ -19,10 +19,10 @@ returns-clause-are c =
     let kept : block ≡ get_or bs at block = c.index_mut.ensures.value ∙ ap (λ cs. get_or cs at block) news
     ∙ get_or-insert_below bs (at + 1) upper block at (omega arith) (omega (arith, within)) in
     let read = c.index.ensures ∙ get_or_default bs at c.index.result.now block within in
-    split_are bs at block within c.truncate.new.self upper 64
-    (c.truncate.ensures.items ∙ ap (λ b. take 64 b.items) kept)
-    (c.in_ok-upper.ensures ∙ take_rest c.deref.result.now 64
-    ∙ ap (drop 64) (c.deref.ensures.value ∙ ap (λ b. b.items) read))
+    split_are bs at block within c.truncate.new.self upper 32
+    (c.truncate.ensures.items ∙ ap (λ b. take 32 b.items) kept)
+    (c.in_ok-upper.ensures ∙ take_rest c.deref.result.now 32
+    ∙ ap (drop 32) (c.deref.ensures.value ∙ ap (λ b. b.items) read))
     c.insert.new.self.items news (omega arith) (c.requires.long block) c.requires.are
 
 pub returns-clause-same : goal.returns-clause-same
@@ -39,7 +39,7 @@ returns-clause-same c =
     ∙ get_or-insert_below bs (at + 1) upper block at (omega arith) (omega (arith, within)) in
     let read = c.index.ensures ∙ get_or_default bs at c.index.result.now block within in
     ap (λ cs. joined (set cs at c.truncate.new.self)) news
-    ∙ split_same bs at block within c.truncate.new.self upper 64
-    (c.truncate.ensures.items ∙ ap (λ b. take 64 b.items) kept)
-    (c.in_ok-upper.ensures ∙ take_rest c.deref.result.now 64
-    ∙ ap (drop 64) (c.deref.ensures.value ∙ ap (λ b. b.items) read))
+    ∙ split_same bs at block within c.truncate.new.self upper 32
+    (c.truncate.ensures.items ∙ ap (λ b. take 32 b.items) kept)
+    (c.in_ok-upper.ensures ∙ take_rest c.deref.result.now 32
+    ∙ ap (drop 32) (c.deref.ensures.value ∙ ap (λ b. b.items) read))
