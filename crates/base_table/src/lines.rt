@@ -67,7 +67,9 @@ pub(crate) fn push_amounts(amounts: &mut Vec<i64>, more: &[i64])
     requires { vec_len amounts.old + length more.now ≤ vec_capacity amounts.old }
     ensures { amounts.new.items ≡ amounts.old.items ++ more.now }
 {
-    amounts.extend_from_slice(more).unwrap();
+    if !more.is_empty() {
+        amounts.extend_from_slice(more).unwrap();
+    }
 }
 
 // Puts the element after each of so many lists, for which there is room.

@@ -1,5 +1,5 @@
 // The rows of a table in the order of the first values of their tuples.
-ghost use Rattle.std.specs.Prelude.{All, IfOk, IfSome, flat_map, is_some, length, nat_abs, slice_index_or, true, ◌<◌, ◌≡◌, ◌≤◌};
+ghost use Rattle.std.specs.Prelude.{All, IfOk, IfSome, flat_map, is_some, length, nat_abs, slice_index_or, true, ◌++◌, ◌<◌, ◌≡◌, ◌≤◌};
 ghost use Rattle.cell_core.specs.Entry.{IsCode};
 ghost use Rattle.base_table.specs.Places.{AreThere, IsTable, named, row_at, rows_of};
 ghost use Rattle.cube_laws.specs.Lists.{Reordered};
@@ -169,7 +169,17 @@ fn amounts_of(alloc: Global, rows: &TableRows<'_, Table>) -> Result<Vec<i64>, Me
     let measures = table.measures() as usize;
     let mut amounts = Vec::with_capacity(alloc, table.count() as usize * measures)?;
     'rows: for row in rows.numbers {
-        amounts.extend_from_slice(table.amounts(*row))?;
+        push_amounts(&mut amounts, table.amounts(*row))?;
     }
     Ok(amounts)
+}
+
+/// Appends amounts. Many tables have none.
+fn push_amounts(amounts: &mut Vec<i64>, more: &[i64]) -> Result<(), Memory>
+    ensures { IfOk result (λ _. amounts.new.items ≡ amounts.old.items ++ more.now) }
+{
+    if !more.is_empty() {
+        amounts.extend_from_slice(more)?;
+    }
+    Ok(())
 }

@@ -7,5 +7,5 @@ rows-preserved c =
     let table = c.args.rows.now.table.now in
     let nos = c.args.rows.now.numbers.now in
     line_more (λ row. row.amounts) table nos c.rows.row-index c.amounts.result.now c.rows.amounts.items
-    c.extend_from_slice.new.self.items c.rows-test.true (c.args.rows.now.there c.rows.row-index zeroth c.rows-test.true)
-    c.amounts.ensures.value c.rows.invariant c.in_ok-extend_from_slice.ensures.items
+    c.push_amounts.new.amounts.items c.rows-test.true (c.args.rows.now.there c.rows.row-index zeroth c.rows-test.true)
+    c.amounts.ensures.value c.rows.invariant c.in_ok-push_amounts.ensures
