@@ -271,8 +271,8 @@ impl QcArena {
     {
         steps.tick();
         match self.nodes.set_edge(node.0, dim, code, target.0) {
-            Ok((had, has)) => {
-                self.kept = self.kept.with_edges(had, has);
+            Ok(more) => {
+                self.kept = self.kept.with_more_edges(more);
                 Ok(())
             }
             Err(error) => Err(error),

@@ -1,5 +1,5 @@
 // A list of edges.
-ghost use Rattle.std.specs.Prelude.{IfOk, OnErr, OnOk, Some, [], length, slice_get, true, ℕ, ◌<◌, ◌∷◌, ◌≡◌};
+ghost use Rattle.std.specs.Prelude.{IfOk, OnErr, OnOk, Some, [], length, slice_get, true, ℕ, ◌+◌, ◌<◌, ◌∷◌, ◌≡◌};
 ghost use Rattle.cell_core.specs.Entry.{IsCode};
 ghost use Rattle.std.specs.Option.{option_map};
 ghost use Rattle.std.specs.Ordering.{eq_by_cmp, nat_cmp};
@@ -78,19 +78,18 @@ impl EdgeList {
         }
     }
 
-    // Adds an edge in its place, or gives the edge with its label a new target. Gives the number of
-    // edges before and after.
+    // Adds an edge in its place, or gives the edge with its label a new target. Gives how many
+    // edges more there are.
     #[inline(always)]
-    pub(crate) fn put(&mut self, edge: PlainEdge) -> Result<(u32, u32), Memory>
+    pub(crate) fn put(&mut self, edge: PlainEdge) -> Result<u32, Memory>
         requires { IsCode edge.code }
         ensures ok { OnOk result (self.new ≡ put_edge (edge_in edge) self.old) }
-        ensures had { IfOk result (λ n. n.0 ≡ length self.old) }
-        ensures has { IfOk result (λ n. n.1 ≡ length self.new) }
+        ensures more { IfOk result (λ n. length self.new ≡ length self.old + n) }
+        ensures fits { OnOk result (length self.new < 4294967296) }
         ensures err { OnErr result (self.new ≡ self.old) }
     {
-        let had = count(&self.edges);
         match put(&mut self.edges, edge) {
-            Ok(()) => Ok((had, count(&self.edges))),
+            Ok(more) => Ok(more),
             Err(error) => Err(error),
         }
     }

@@ -44,14 +44,15 @@ impl Model for EdgeLists {
         (vec_capacity s.free) };
 }
 
-// Adds an edge to the list that is there.
+// Adds an edge to the list that is there. Gives how many edges more there are.
 #[inline(always)]
-fn put_in(slot: &mut Option<EdgeList>, edge: PlainEdge) -> Result<(u32, u32), Memory>
+fn put_in(slot: &mut Option<EdgeList>, edge: PlainEdge) -> Result<u32, Memory>
     requires there { IsSome slot.old }
     requires code { IsCode edge.code }
     ensures there { IsSome slot.new }
-    ensures had { IfOk result (λ n. n.0 ≡ length (list_in slot.old)) }
-    ensures has { IfOk result (λ n. n.1 ≡ length (list_in slot.new)) }
+    ensures more { IfOk result
+        (λ n. length (list_in slot.new) ≡ length (list_in slot.old) + n) }
+    ensures fits { OnOk result (length (list_in slot.new) < 4294967296) }
     ensures ok { OnOk result (slot.new ≡ Some (put_edge (edge_in edge) (list_in slot.old))) }
     ensures err { OnErr result (slot.new ≡ slot.old) }
 {
@@ -194,16 +195,17 @@ impl EdgeLists {
         }
     }
 
-    // Adds an edge to the list at a place, or gives the edge with its label a new target. Gives the
-    // number of edges before and after.
+    // Adds an edge to the list at a place, or gives the edge with its label a new target. Gives how
+    // many edges more there are.
     #[inline(always)]
-    pub(crate) fn put(&mut self, place: u32, edge: PlainEdge) -> Result<(u32, u32), Memory>
+    pub(crate) fn put(&mut self, place: u32, edge: PlainEdge) -> Result<u32, Memory>
         requires there { slots.ContainsKey self.old place }
         requires code { IsCode edge.code }
         ensures ok { OnOk result (slots.Updates self.old self.new place
             (Some (put_edge (edge_in edge) (list_at self.old place)))) }
-        ensures had { IfOk result (λ n. n.0 ≡ length (list_at self.old place)) }
-        ensures has { IfOk result (λ n. n.1 ≡ length (list_at self.new place)) }
+        ensures more { IfOk result
+            (λ n. length (list_at self.new place) ≡ length (list_at self.old place) + n) }
+        ensures fits { OnOk result (length (list_at self.new place) < 4294967296) }
         ensures others { (q : ℕ) → q ≢ place → slots.get self.new q ≡ slots.get self.old q }
         ensures err { OnErr result (slots.SameValues self.old self.new) }
         ensures there { (q : ℕ)

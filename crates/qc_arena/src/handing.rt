@@ -72,8 +72,10 @@ pub(crate) fn hand_down_at(nodes: &mut NodeStore, node: u32, dim: u8) -> Result<
         Ok(child) => child,
         Err(error) => return Err(error),
     };
+    let had = nodes.edge_count(node);
     match nodes.set_edge(node, dim, 0, child) {
-        Ok((had, has)) => {
+        Ok(_) => {
+            let has = nodes.edge_count(node);
             nodes.move_class(node, child);
             let forced = Forced {
                 dim,

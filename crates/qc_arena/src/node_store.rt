@@ -1,5 +1,5 @@
 // The nodes by number, with their aggregates.
-ghost use Rattle.std.specs.Prelude.{IfOk, IfSome, IsSome, None, OnErr, OnOk, Some, [], is_some, length, slice_get, true, false, ℕ, ◌<◌, ◌≡◌, ◌≢◌, ◌≤◌};
+ghost use Rattle.std.specs.Prelude.{IfOk, IfSome, IsSome, None, OnErr, OnOk, Some, [], is_some, length, slice_get, true, false, ℕ, ◌+◌, ◌<◌, ◌≡◌, ◌≢◌, ◌≤◌};
 ghost use Rattle.cell_core.specs.Entry.{IsCode};
 ghost use Rattle.std.specs.Option.{option_map};
 ghost use Rattle.std.specs.Ordering.{eq_by_cmp, nat_cmp};
@@ -313,14 +313,14 @@ impl NodeStore {
         }
     }
 
-    // Sets an edge of a node. Gives the number of edges before and after.
+    // Sets an edge of a node. Gives how many edges more there are.
     pub(crate) fn set_edge(
         &mut self,
         node: u32,
         dim: u8,
         code: Code,
         target: u32,
-    ) -> Result<(u32, u32), Memory>
+    ) -> Result<u32, Memory>
         requires node { IsSome (join (slots.get self.old node)) }
         requires code { IsCode code }
         ensures others { (q : ℕ) → q ≢ node → slots.get self.new q ≡ slots.get self.old q }
@@ -329,10 +329,11 @@ impl NodeStore {
             (join (slots.get self.new node) ≡ option_map
             (with_edge (record { dim = dim; value = code; target = target }))
             (join (slots.get self.old node))) }
-        ensures had { IfOk result
-            (λ n. n.0 ≡ length (record_or (join (slots.get self.old node))).edges) }
-        ensures has { IfOk result
-            (λ n. n.1 ≡ length (record_or (join (slots.get self.new node))).edges) }
+        ensures more { IfOk result
+            (λ n. length (record_or (join (slots.get self.new node))).edges
+            ≡ length (record_or (join (slots.get self.old node))).edges + n) }
+        ensures fits { OnOk result
+            (length (record_or (join (slots.get self.new node))).edges < 4294967296) }
         ensures err { OnErr result
             (join (slots.get self.new node) ≡ join (slots.get self.old node)) }
     {

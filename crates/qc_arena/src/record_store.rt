@@ -122,7 +122,8 @@ fn drop_edges(records: &mut Slab<KeptRecord>, lists: &mut EdgeLists, node: u32)
 // The edges of a record that keeps them itself, with one more, or with another target at its label.
 fn own_with(alloc: Global, kept: &KeptRecord, edge: PlainEdge) -> EdgeList
     requires { IsCode edge.code }
-    ensures { result ≡ put_edge (edge_in edge) kept.now.node.edges }
+    ensures edges { result ≡ put_edge (edge_in edge) kept.now.node.edges }
+    ensures grows { length kept.now.node.edges ≤ length result }
 {
     let Some(own) = kept.only() else {
         return EdgeList::one(alloc, edge);
@@ -158,6 +159,7 @@ fn put_own(
         (join (slots.get (nodes_of records.old lists.old) node))).edges }
     ensures has { result.1 ≡ length (record_or
         (join (slots.get (nodes_of records.new lists.new) node))).edges }
+    ensures grows { result.0 ≤ result.1 }
     ensures others { (q : ℕ) → q ≢ node → slots.get (nodes_of records.new lists.new) q
         ≡ slots.get (nodes_of records.old lists.old) q }
 {
@@ -172,13 +174,14 @@ fn put_own(
     (had, has)
 }
 
-// Adds an edge to a record, or gives the edge that has its label a new target.
+// Adds an edge to a record, or gives the edge that has its label a new target. Gives how
+// many edges more there are.
 fn put_at(
     records: &mut Slab<KeptRecord>,
     lists: &mut EdgeLists,
     node: u32,
     edge: PlainEdge,
-) -> Result<(u32, u32), Memory>
+) -> Result<u32, Memory>
     requires node { IsSome (join (slots.get (nodes_of records.old lists.old) node)) }
     requires code { IsCode edge.code }
     requires listed { AreListed records.old lists.old }
@@ -186,10 +189,11 @@ fn put_at(
     ensures ok { OnOk result (slots.get (nodes_of records.new lists.new) node
         ≡ option_map (option_map (with_edge (edge_in edge)))
         (slots.get (nodes_of records.old lists.old) node)) }
-    ensures had { IfOk result (λ n. n.0 ≡ length (record_or
-        (join (slots.get (nodes_of records.old lists.old) node))).edges) }
-    ensures has { IfOk result (λ n. n.1 ≡ length (record_or
-        (join (slots.get (nodes_of records.new lists.new) node))).edges) }
+    ensures more { IfOk result (λ n. length (record_or
+        (join (slots.get (nodes_of records.new lists.new) node))).edges
+        ≡ length (record_or (join (slots.get (nodes_of records.old lists.old) node))).edges + n) }
+    ensures fits { OnOk result (length (record_or
+        (join (slots.get (nodes_of records.new lists.new) node))).edges < 4294967296) }
     ensures err { OnErr result (slots.get (nodes_of records.new lists.new) node
         ≡ slots.get (nodes_of records.old lists.old) node) }
     ensures others { (q : ℕ) → q ≢ node → slots.get (nodes_of records.new lists.new) q
@@ -197,7 +201,10 @@ fn put_at(
 {
     match records[node as usize].place() {
         Some(place) => lists.put(place, edge),
-        None => Ok(put_own(records, lists, node, edge.dim, edge.code, edge.target)),
+        None => {
+            let (had, has) = put_own(records, lists, node, edge.dim, edge.code, edge.target);
+            Ok(has - had)
+        }
     }
 }
 
@@ -627,18 +634,19 @@ impl RecordStore {
         self.records[node].set_width(dims);
     }
 
-    // Adds an edge, or gives the edge with its label a new target. Gives the number of edges before
-    // and after.
-    pub(crate) fn set_edge(&mut self, node: u32, edge: PlainEdge) -> Result<(u32, u32), Memory>
+    // Adds an edge, or gives the edge with its label a new target. Gives how many edges more
+    // there are.
+    pub(crate) fn set_edge(&mut self, node: u32, edge: PlainEdge) -> Result<u32, Memory>
         requires node { IsSome (join (slots.get self.old node)) }
         requires code { IsCode edge.code }
         ensures ok { OnOk result
             (join (slots.get self.new node) ≡ option_map (with_edge (edge_in edge))
             (join (slots.get self.old node))) }
-        ensures had { IfOk result
-            (λ n. n.0 ≡ length (record_or (join (slots.get self.old node))).edges) }
-        ensures has { IfOk result
-            (λ n. n.1 ≡ length (record_or (join (slots.get self.new node))).edges) }
+        ensures more { IfOk result
+            (λ n. length (record_or (join (slots.get self.new node))).edges
+            ≡ length (record_or (join (slots.get self.old node))).edges + n) }
+        ensures fits { OnOk result
+            (length (record_or (join (slots.get self.new node))).edges < 4294967296) }
         ensures err { OnErr result
             (join (slots.get self.new node) ≡ join (slots.get self.old node)) }
         ensures others { (q : ℕ) → q ≢ node → slots.get self.new q ≡ slots.get self.old q }

@@ -103,6 +103,22 @@ impl TreeTotals {
         }
     }
 
+    // The totals after a node has so many edges more.
+    pub(crate) fn with_more_edges(self, more: u32) -> TreeTotals
+        requires { self.edges < 18446744069414584320 }
+        ensures root { result.root ≡ self.root }
+        ensures nodes { result.nodes ≡ self.nodes }
+        ensures classes { result.classes ≡ self.classes }
+        ensures edges { result.edges ≡ self.edges + more }
+    {
+        TreeTotals {
+            root: self.root,
+            nodes: self.nodes,
+            classes: self.classes,
+            edges: self.edges + more as u64,
+        }
+    }
+
     // The totals after a node's number of edges changed. That number has 32 bits.
     pub(crate) fn with_edges(self, had: u32, has: u32) -> TreeTotals
         requires had { had ≤ self.edges }

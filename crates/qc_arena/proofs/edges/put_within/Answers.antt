@@ -39,6 +39,7 @@ returns-then-is_at c =
           (all_put is_small (edge_in e) (edges_to xs)
           (subst (λ (x : Edge ℕ ℕ). is_small x ≡ true) c.of-stored.ensures.is c.of-stored.ensures.small)
           c.requires.small);
+      more = let long = ap length written ∙ length-set xs k s in omega (arith, long);
       err = search rules;
     }
 
@@ -70,5 +71,6 @@ returns-in-Ok c =
           (all_put is_small (edge_in e) (edges_to xs)
           (subst (λ (x : Edge ℕ ℕ). is_small x ≡ true) c.of-stored.ensures.is c.of-stored.ensures.small)
           c.requires.small);
+      more = omega (arith, c.in-Ok.ensures.len);
       err = search rules;
     }

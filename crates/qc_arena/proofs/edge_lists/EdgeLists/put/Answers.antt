@@ -17,5 +17,8 @@ returns-clause-there c = grind (arith, common_steps)
 pub returns-clause-len : goal.returns-clause-len
 returns-clause-len c = grind (arith, common_steps)
 
-pub returns-clause-has : goal.returns-clause-has
-returns-clause-has c = grind (arith, common_steps)
+pub returns-clause-more : goal.returns-clause-more
+returns-clause-more c = grind (arith, common_steps)
+
+pub returns-clause-fits : goal.returns-clause-fits
+returns-clause-fits c = grind (arith, common_steps)
