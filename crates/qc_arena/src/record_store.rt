@@ -232,30 +232,35 @@ fn give_edges(records: &mut Slab<KeptRecord>, lists: &mut EdgeLists, node: u32, 
     }
 }
 
-// Makes room for so many edges of a record that has no list. One edge needs none.
-fn reserve_own(
-    records: &mut Slab<KeptRecord>,
-    lists: &mut EdgeLists,
-    node: u32,
-    more: u32,
-) -> Result<(), Memory>
+// Gives a record that has no list one with its own edges.
+fn list_own(records: &mut Slab<KeptRecord>, lists: &mut EdgeLists, node: u32)
     requires node { slots.ContainsKey records.old node }
     requires unlisted { IfSome (slots.get records.old node) (λ h. h.place ≡ None) }
     requires listed { AreListed records.old lists.old }
     ensures listed { AreListed records.new lists.new }
     ensures same { (q : ℕ) → slots.get (nodes_of records.new lists.new) q
         ≡ slots.get (nodes_of records.old lists.old) q }
+    ensures there { slots.ContainsKey records.new node }
+{
+    let list = own_edges(lists.allocator(), &records[node as usize]);
+    store_list(records, lists, node, list);
+}
+
+// Gives a record a list if it has none, and several edges are to come. One edge needs no list.
+fn make_list(records: &mut Slab<KeptRecord>, lists: &mut EdgeLists, node: u32, more: u32)
+    requires node { slots.ContainsKey records.old node }
+    requires listed { AreListed records.old lists.old }
+    ensures listed { AreListed records.new lists.new }
+    ensures same { (q : ℕ) → slots.get (nodes_of records.new lists.new) q
+        ≡ slots.get (nodes_of records.old lists.old) q }
+    ensures there { slots.ContainsKey records.new node }
 {
     if more <= 1 {
-        return Ok(());
+        return;
     }
-    let mut list = own_edges(lists.allocator(), &records[node as usize]);
-    match list.reserve(more) {
-        Ok(()) => {
-            store_list(records, lists, node, list);
-            Ok(())
-        }
-        Err(error) => Err(error),
+    match records[node as usize].place() {
+        Some(_) => {}
+        None => list_own(records, lists, node),
     }
 }
 
@@ -272,9 +277,10 @@ fn reserve_at(
     ensures same { (q : ℕ) → slots.get (nodes_of records.new lists.new) q
         ≡ slots.get (nodes_of records.old lists.old) q }
 {
+    make_list(records, lists, node, more);
     match records[node as usize].place() {
         Some(place) => lists.reserve_at(place, more),
-        None => reserve_own(records, lists, node, more),
+        None => Ok(()),
     }
 }
 

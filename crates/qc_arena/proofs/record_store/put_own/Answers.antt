@@ -1,4 +1,4 @@
-use Rattle.std.proofs.Common.{◌≡◌, ◌∙◌, ◌∷◌, ℕ, [], List, Option, ap, length, refl, sym}
+use Rattle.std.proofs.Common.{◌∙◌, ℕ, List, ap, length, refl, sym}
 use Rattle.slab.specs.Slab as slots
 use Rattle.cube_defs.specs.Tree.{Edge}
 use Rattle.qc_arena.specs.Edges.{put_edge, with_edge}
@@ -17,7 +17,8 @@ returns-then-try_only-clause-here c =
     let taken = c.if-try_only.ensures.taken refl in
     let h = c.index_mut.result.now in
     own_by c.args.records.now c.args.lists.now c.requires.listed c.args.node h c.try_only.new.self
-    c.index_mut.ensures.value (ap (λ (h : Kept). h.place) taken) (with_edge (record { dim = c.args.dim; value = c.args.code; target = c.args.target }))
+    c.index_mut.ensures.value (ap (λ (h : Kept). h.place) taken)
+    (with_edge (record { dim = c.args.dim; value = c.args.code; target = c.args.target }))
     (c.if-try_only.ensures.unlisted refl) (taken ∙ sym (ap (λ (es : List (Edge ℕ ℕ)). record h {
       node
           = with_edges (put_edge (record { dim = c.args.dim; value = c.args.code; target = c.args.target }) es) h.node;
@@ -27,7 +28,9 @@ pub returns-then-try_only-clause-has : goal.returns-then-try_only-clause-has
 returns-then-try_only-clause-has c =
     let taken = c.if-try_only.ensures.taken refl in
     let s = slots.with_value c.args.records.now c.args.node c.try_only.new.self in
-    let there = there_after (with_edge (record { dim = c.args.dim; value = c.args.code; target = c.args.target })) (slots.get (nodes_of s c.args.lists.now) c.args.node)
+    let there = there_after
+    (with_edge (record { dim = c.args.dim; value = c.args.code; target = c.args.target }))
+    (slots.get (nodes_of s c.args.lists.now) c.args.node)
     (slots.get (nodes_of c.args.records.now c.args.lists.now) c.args.node) (returns-then-try_only-clause-here c)
     c.requires.node in
     sym (ap (λ (es : List (Edge ℕ ℕ)). length es) (seen_own s c.args.lists.now c.args.node c.try_only.new.self

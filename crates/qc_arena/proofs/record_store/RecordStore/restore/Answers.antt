@@ -1,8 +1,7 @@
-use Rattle.std.proofs.Common.{◌≡◌, ◌∙◌, [], List, Option, None, ap, is_some, subst, sym}
+use Rattle.std.proofs.Common.{◌≡◌, ◌∙◌, Option, None, ap, is_some, subst, sym}
 use Rattle.std.specs.Prelude.{IfSome}
 use Rattle.std.specs.Option.{option_map}
 use Rattle.slab.specs.Slab as slots
-use Rattle.cube_defs.specs.Tree.{Edge}
 use Rattle.qc_arena.specs.Inside.{join}
 use Rattle.qc_arena.specs.KeptSlot.{Kept, with_edges}
 use Rattle.qc_arena.specs.Map.{Known}

@@ -1,13 +1,12 @@
-use Rattle.std.proofs.Common.{◌≡◌, ◌∙◌, Option, None, subst}
+use Rattle.std.proofs.Common.{◌≡◌, Option, None, subst}
 use Rattle.std.specs.Prelude.{IfSome}
 use Rattle.qc_arena.specs.KeptSlot.{Kept}
 use Rattle.qc_arena.proofs.Listed.{own_listed}
-use Rattle.qc_arena.proofs.record_store.reserve_own.Goals as goal
+use Rattle.qc_arena.proofs.record_store.list_own.Goals as goal
 
-pub returns-in-Ok-clause-same : goal.returns-in-Ok-clause-same
-returns-in-Ok-clause-same c =
+pub returns-clause-same : goal.returns-clause-same
+returns-clause-same c =
     own_listed c.args.records.now c.store_list.new.records c.args.lists.now c.store_list.new.lists c.args.node
     c.index.result.now c.index.ensures
     (subst (λ (o : Option Kept). IfSome o (λ h. h.place ≡ None)) c.index.ensures c.requires.unlisted)
-    c.reserve.new.self (c.reserve.ensures ∙ c.own_edges-list.ensures) c.store_list.ensures.here
-    c.store_list.ensures.others
+    c.own_edges-list.result c.own_edges-list.ensures c.store_list.ensures.here c.store_list.ensures.others
