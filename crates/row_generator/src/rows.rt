@@ -8,6 +8,31 @@ use aggregates::print_amount;
 use cube_defs::Memory;
 use itoa::Buffer;
 
+// Appends a digit.
+fn push_digit(out: &mut Vec<u8>, digit: u32) -> Result<(), Memory>
+    requires { digit < 10 }
+    ensures text { OnOk result (out.new.items ≡ out.old.items ++ (48 + digit) ∷ []) }
+    ensures short { OnOk result (length out.new.items ≡ length out.old.items + 1) }
+{
+    out.push(b'0' + digit as u8)?;
+    Ok(())
+}
+
+// Appends a number of one or two digits.
+#[tactic(auto, using(std::proofs::lemmas::Fmt::decimal_digit))]
+fn push_small(out: &mut Vec<u8>, number: u32) -> Result<(), Memory>
+    requires { number < 100 }
+    ensures text { OnOk result (out.new.items ≡ out.old.items ++ decimal number) }
+    ensures short { OnOk result (length out.new.items ≤ length out.old.items + 2) }
+{
+    if number < 10 {
+        return push_digit(out, number);
+    }
+    push_digit(out, number / 10)?;
+    push_digit(out, number % 10)?;
+    Ok(())
+}
+
 // Appends a number.
 fn push_number(out: &mut Vec<u8>, number: u32) -> Result<(), Memory>
     ensures text { OnOk result (out.new.items ≡ out.old.items ++ decimal number) }
@@ -18,7 +43,8 @@ fn push_number(out: &mut Vec<u8>, number: u32) -> Result<(), Memory>
 
 // Appends a comma and the field of a dimension with so many values.
 fn push_value(out: &mut Vec<u8>, name: u8, most: u32, draws: &mut Draws) -> Result<(), Memory>
-    requires { 0 < most }
+    requires some { 0 < most }
+    requires few { most ≤ 100 }
     ensures state { draws.new.state ≡ after_draw draws.old.state }
     ensures text { OnOk result (out.new.items ≡ out.old.items
         ++ value_text name most draws.old.state) }
@@ -27,7 +53,7 @@ fn push_value(out: &mut Vec<u8>, name: u8, most: u32, draws: &mut Draws) -> Resu
     let number = draws.next_less_than(most);
     out.push(b',')?;
     out.push(name)?;
-    push_number(out, number)
+    push_small(out, number)
 }
 
 // Appends the fields of the dimensions.
