@@ -4,7 +4,7 @@ ghost use Rattle.std.specs.Option.{option_map};
 ghost use Rattle.std.specs.Prelude.{IsSome, None, Some, length, slice_get, slice_index_or, ℕ, ◌*◌, ◌+◌, ◌-◌, ◌<◌, ◌≡◌, ◌≤◌};
 ghost use Rattle.cell_core.specs.Entry.{value_in};
 ghost use Rattle.cube_defs.specs.Cell.{with_value};
-ghost use Rattle.qc_arena.specs.RecordReaders.{edge_of, number, record_at};
+ghost use Rattle.qc_arena.specs.RecordReaders.{number, record_at};
 ghost use Rattle.tree_search.specs.Found.{IsNumberOfCell, closure_in};
 ghost use Rattle.batch_delete.specs.DeletedRow.{IsPrefixNode};
 ghost use Rattle.batch_delete.specs.Rests.{Deletion, source_before};
@@ -12,9 +12,9 @@ ghost use Rattle.batch_delete.specs.Searching.{AreFound, stepped, target_in};
 
 use crate::deleted_row::Class;
 use cell_core::{Entry, NodeNo, Steps};
-use qc_arena::{Forced, Nodes, QcArena};
+use qc_arena::{Nodes, QcArena};
 use std::sync::ledger::Ledger;
-use tree_search::step_with_forced;
+use tree_search::step;
 
 /// So many searches go on side by side. What they read is far apart in memory, so the processor
 /// fetches it for all of them at the same time.
@@ -28,70 +28,27 @@ pub(crate) struct Searches {
     pub nodes: [Option<NodeNo>; SEARCHES as usize],
 }
 
-// The forced child of a search's node. None if the search has found before that no row is left.
-fn forced_of<L: Ledger>(
-    arena: &QcArena,
-    node: Option<NodeNo>,
-    steps: &mut Steps<L>,
-) -> Option<Forced>
-    requires { (q : _) → node ≡ Some q → IsSome (map.get arena.now.now q.0) }
-    ensures value { (q : _) → node ≡ Some q →
-        option_map edge_of result ≡ (record_at arena.now.now q.0).forced }
-    ensures steps { steps.new ≤ steps.old + 1 }
-{
-    match node {
-        None => None,
-        Some(node) => arena.forced(node, steps),
-    }
-}
-
-// The forced children of the nodes of the first searches, of which there are so many.
-fn forced_of_all<L: Ledger>(
-    arena: &QcArena,
-    nodes: &[Option<NodeNo>; SEARCHES as usize],
-    many: u32,
-    steps: &mut Steps<L>,
-) -> [Option<Forced>; SEARCHES as usize]
-    requires many { many ≤ SEARCHES }
-    requires there { (k : ℕ) (q : _) → k < many → slice_index_or nodes.now k None ≡ Some q
-        → IsSome (map.get arena.now.now q.0) }
-    ensures value { (k : ℕ) (q : _) → k < many → slice_index_or nodes.now k None ≡ Some q
-        → option_map edge_of (slice_index_or result k None)
-        ≡ (record_at arena.now.now q.0).forced }
-    ensures steps { steps.new ≤ steps.old + many }
-{
-    let mut forced = [None; SEARCHES as usize];
-    'searches: for k in 0..many as usize {
-        forced[k] = forced_of(arena, nodes[k], steps);
-    }
-    forced
-}
-
-// One dimension of a search, whose node's forced child was read before. None if the search has
-// found before that no row is left.
+// One dimension of a search. None if the search has found before that no row is left.
 fn step_on<L: Ledger>(
     arena: &QcArena,
     node: Option<NodeNo>,
-    forced: Option<Forced>,
     dim: u8,
     asked: Entry,
     steps: &mut Steps<L>,
 ) -> Option<NodeNo>
-    requires there { (q : _) → node ≡ Some q → IsSome (map.get arena.now.now q.0) }
-    requires forced { (q : _) → node ≡ Some q →
-        option_map edge_of forced ≡ (record_at arena.now.now q.0).forced }
+    requires { (q : _) → node ≡ Some q → IsSome (map.get arena.now.now q.0) }
     ensures value { option_map number result
         ≡ stepped arena.now.now dim (value_in asked) (option_map number node) }
-    ensures steps { steps.new ≤ steps.old + 1 }
+    ensures steps { steps.new ≤ steps.old + 2 }
 {
     match node {
         None => None,
-        Some(node) => step_with_forced(arena, node, forced, dim, asked, steps),
+        Some(node) => step(arena, node, dim, asked, steps),
     }
 }
 
-// One dimension of the first searches, of which there are so many. The forced children of all their
-// nodes are read first. So no search waits for the node of another one.
+// One dimension of the first searches, of which there are so many. No search waits for the node of
+// another one.
 fn step_all<L: Ledger>(
     arena: &QcArena,
     nodes: &mut [Option<NodeNo>; SEARCHES as usize],
@@ -108,9 +65,8 @@ fn step_all<L: Ledger>(
         (option_map number (slice_index_or nodes.old k None)) }
     ensures steps { steps.new ≤ steps.old + 2 * many }
 {
-    let forced = forced_of_all(arena, nodes, many, steps);
     'searches: for k in 0..many as usize {
-        nodes[k] = step_on(arena, nodes[k], forced[k], dim, asked, steps);
+        nodes[k] = step_on(arena, nodes[k], dim, asked, steps);
     }
 }
 
