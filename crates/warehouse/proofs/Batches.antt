@@ -8,14 +8,16 @@ use Rattle.cube_defs.specs.Text.{Text, text_cmp}
 use Rattle.cube_defs.specs.Tree.{IsCanonical, Tree, classes, nodes}
 use Rattle.measure_index.specs.Rankings.{Ranking}
 use Rattle.qc_arena.specs.Codes.{Shape}
+use Rattle.qc_arena.specs.Map as arena
 use Rattle.qc_arena.specs.Map.{Arena, is_open, is_touched, shape_of}
 use Rattle.qc_schema.specs.Schema.{Layout}
 use Rattle.tree_laws.proofs.CallerLemmas.{some_same}
 use Rattle.tree_laws.specs.Counts.{classes_in}
-use Rattle.value_dict.specs.TextLists.{TextLists}
+use Rattle.value_dict.specs.TextLists.{IsDictionary, TextLists}
 use Rattle.value_dict.specs.Decoded.{RowsAreCodes, decoded_row}
 use Rattle.warehouse.specs.Batch.{after, result_of, rows_after, texts_after}
-use Rattle.warehouse.specs.Changing.{AreAsBefore, AreMade, AreParts, IsCommitted, IsInPlace, IsRolledBack, LeavesFrames, begun, state_in}
+use Rattle.warehouse.specs.Changing.{AreAsBefore, AreMade, AreParts, IsCommitted, IsInPlace, IsRolledBack, LeavesFrames, OnlyAdds, begun}
+use Rattle.warehouse.specs.Changing.{state_in}
 use Rattle.warehouse.specs.InPlace.{has_image}
 use Rattle.warehouse.specs.State.{IsIndexed, State}
 use Rattle.warehouse.specs.Steps.{closed, frame}
@@ -24,6 +26,7 @@ use Rattle.warehouse.specs.declared.cube.Cube.{Cube}
 use Rattle.warehouse.proofs.Counted.{classes-kept}
 use Rattle.warehouse.proofs.Growing.{cut-back}
 use Rattle.warehouse.proofs.States.{stored-next}
+use Rattle.warehouse.proofs.Texts.{longer-same}
 use Rattle.warehouse.proofs.Touching.{images-touched}
 use Rattle.warehouse.proofs.Trees.{kept-back, kept-canonical, tree-from}
 use Rattle.warehouse.proofs.Values.{values-after}
@@ -149,3 +152,34 @@ module _ (schema : Layout) (cube cube0 cube1 : Cube) (is : IsStored schema cube.
       (sym (ap (λ (a : Arena). a.now) committed.of_tree))
       (subst (λ (c : Cube). IsInPlace (state_in schema c) changes cube1.dict.lists c.tree.now cube1.tree.now touched
       from to) opened imaged))
+
+-- what a batch is taken back by: texts are as they were, or were only added, or only the tree is written
+pub same-frames : (cube cube' : Cube) → cube'.dict ≡ cube.dict → IsDictionary cube.dict
+    → frame cube'.table ≡ frame cube.table → arena.frame cube'.tree ≡ arena.frame cube.tree → LeavesFrames cube cube'
+same-frames cube cube' same is table tree = record {
+  longer = rw same (longer-same cube.dict.lists);
+  most_texts = ap (λ (d : TextLists). d.max) same;
+  dictionary = rw same is;
+  of_table = table;
+  of_tree = tree;
+}
+
+pub added-frames : (cube cube' : Cube) (mid : Places) → OnlyAdds cube.dict cube'.dict mid cube'.table
+    → frame mid ≡ frame cube.table → arena.frame cube'.tree ≡ arena.frame cube.tree → LeavesFrames cube cube'
+added-frames cube cube' mid adds table tree = record {
+  longer = adds.longer;
+  most_texts = adds.most_texts;
+  dictionary = adds.dictionary;
+  of_table = adds.frame ∙ table;
+  of_tree = tree;
+}
+
+pub tree-frames : (cube mid cube' : Cube) → LeavesFrames cube mid → cube'.dict ≡ mid.dict → cube'.table ≡ mid.table
+    → arena.frame cube'.tree ≡ arena.frame mid.tree → LeavesFrames cube cube'
+tree-frames cube mid cube' frames dict table tree = record {
+  longer = rw dict frames.longer;
+  most_texts = rw dict frames.most_texts;
+  dictionary = rw dict frames.dictionary;
+  of_table = rw table frames.of_table;
+  of_tree = tree ∙ frames.of_tree;
+}

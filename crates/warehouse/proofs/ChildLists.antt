@@ -38,11 +38,9 @@ set_here (x ∷ xs) zero y l = refl
 set_here (x ∷ xs) (suc i) y l = set_here xs i y (omega (arith, l))
 
 set_apart : {X : Type 0} (xs : List X) (i j : ℕ) (y : X) → j ≢ i → slice_get (set xs i y) j ≡ slice_get xs j
-set_apart [] i j y apart = refl
 set_apart (x ∷ xs) zero zero y apart = absurd (apart refl)
-set_apart (x ∷ xs) zero (suc j) y apart = refl
-set_apart (x ∷ xs) (suc i) zero y apart = refl
 set_apart (x ∷ xs) (suc i) (suc j) y apart = set_apart xs i j y (λ e. apart (ap suc e))
+set_apart _ i j y apart = refl
 
 -- the nodes that are done, and the next
 listed_next : (nodes : List NodeNo) (x : NodeNo) (k : ℕ)

@@ -149,10 +149,9 @@ module _ (t : Places) (id : ℕ) (d : Deletion) (is : IsTable t) (row : IsDeleti
 same-tuple : (vs ws : List ℕ) → length vs ≡ length ws
     → cell_eq nat_eq (cell_of ws) (cell_of vs) ≡ leq (eq_by_cmp nat_cmp) (cell_of vs) (cell_of ws)
 same-tuple [] [] same = refl
-same-tuple [] (w ∷ ws) same = absurd (omega (arith, same))
-same-tuple (v ∷ vs) [] same = absurd (omega (arith, same))
 same-tuple (v ∷ vs) (w ∷ ws) same
     = ap₂ (λ (a b : Bool). a && b) (nat_eq-turned w v ∙ sym (eq_cmp v w)) (same-tuple vs ws (omega (arith, same)))
+same-tuple _ _ same = absurd (omega (arith, same))
 
 same-rows : (vs : List ℕ) (rows : List (Row ℕ)) → AllByRecursion (λ (row : Row ℕ). length row.tuple ≡ length vs) rows
     → with_tuple rows (cell_of vs) ≡ cov (eq_by_cmp nat_cmp) rows (cell_of vs)

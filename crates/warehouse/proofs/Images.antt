@@ -31,6 +31,10 @@ pub err-then : {T E P Q : Type 0} (r : Result T E) → (P → Q) → OnErr r P �
 err-then (Ok x) f h = tt
 err-then (Err e) f h = f h
 
+pub err-same : {T E X : Type 0} (r : Result T E) (f : Contents → X) (now mid was : Contents) → mid ≡ was
+    → OnErr r (now ≡ mid) → OnErr r (f now ≡ f was)
+err-same r f now mid was rest same = err-then r (λ (e : now ≡ mid). ap f (e ∙ rest)) same
+
 -- an arena in which a batch was opened
 abbrev pub begun : Arena → Arena
 begun a = record a { was = Some (shape_of a); touched = set.empty; last = finmap.empty }

@@ -78,9 +78,8 @@ any-shallow dims c long = omega (arith, depth-any_after c, depth-le c, long)
 -- Any in a new dimension, and without it
 resize-any : (c : Cell ℕ) (dims : ℕ) → length c ≡ dims → resize dims (and_any c) ≡ c
 resize-any [] zero long = refl
-resize-any [] (suc dims) long = absurd (omega (arith, long))
-resize-any (e ∷ c) zero long = absurd (omega (arith, long))
 resize-any (e ∷ c) (suc dims) long = ap (λ d. e ∷ d) (resize-any c dims (omega (arith, long)))
+resize-any _ _ long = absurd (omega (arith, long))
 
 -- what is known of each node, and each number without one
 module _ (dims i : ℕ) (done : ℕ → Bool) (tree : Tree ℕ) (is_wide : IsWide dims tree) (n : Known)

@@ -11,10 +11,9 @@ use Rattle.warehouse.proofs.Changes.{change-at, repeat-later}
 
 -- changes of different ids are not the same
 apart : (c d : Change Text) → id_of d < id_of c → same_change c d ≡ false
-apart (Delete id) (Delete other) lt = grind (arith, lt)
 apart (Delete id) (Insert row) lt = refl
 apart (Insert row) (Delete id) lt = refl
-apart (Insert row) (Insert other) lt = grind (arith, lt)
+apart _ _ lt = grind (arith, lt)
 
 none-same : (c : Change Text) (xs : List (Change Text))
     → ((j : ℕ) → j < length xs → id_of (get_or xs j (Delete 0)) < id_of c) → list_any (same_change c) xs ≡ false

@@ -52,10 +52,8 @@ prefix-length b n front = omega (arith, ap (λ (ts : List Text). length ts) fron
 
 pub longer-longer : (a b c : List (List Text)) → AreLonger a b → AreLonger b c → AreLonger a c
 longer-longer [] [] [] h l = l
-longer-longer [] [] (z ∷ c) h l = absurd (omega (arith, l.dims))
 longer-longer [] (y ∷ b) c h l = absurd (omega (arith, h.dims))
 longer-longer (x ∷ a) [] c h l = absurd (omega (arith, h.dims))
-longer-longer (x ∷ a) (y ∷ b) [] h l = absurd (omega (arith, l.dims))
 longer-longer (x ∷ a) (y ∷ b) (z ∷ c) h l =
     let first : take (length x) y ≡ x = longer-head x y a b h in
     let second : take (length y) z ≡ y = longer-head y z b c l in
@@ -63,6 +61,7 @@ longer-longer (x ∷ a) (y ∷ b) (z ∷ c) h l =
     longer-cons x z a c
     (sym (take-take (length x) (length y) z few) ∙ ap (λ (ts : List Text). take (length x) ts) second ∙ first)
     (longer-longer a b c (longer-tail x y a b h) (longer-tail y z b c l))
+longer-longer _ _ _ h l = absurd (omega (arith, l.dims))
 
 longer-learnt_in : (texts : List Text) (text : Text) → take (length texts) (learnt_in texts text) ≡ texts
 longer-learnt_in texts text = by (is_some (code_in texts text)) refl
@@ -187,12 +186,6 @@ pub learnt-all : (before now : List (List Text)) (tuple : List Text) (cell : Cel
     → IsLearnt before now tuple cell
 learnt-all [] [] [] [] same many whole each
     = record { lists = refl; texts = refl; codes = tt; whole = All-nil (λ (e : Option ℕ). is_some e ≡ true) }
-learnt-all [] (n ∷ now) tuple cell same many whole each = absurd (omega arith)
-learnt-all [] [] (t ∷ tuple) cell same many whole each = absurd (omega arith)
-learnt-all [] [] [] (e ∷ cell) same many whole each = absurd (omega arith)
-learnt-all (b ∷ before) [] tuple cell same many whole each = absurd (omega arith)
-learnt-all (b ∷ before) (n ∷ now) [] cell same many whole each = absurd (omega arith)
-learnt-all (b ∷ before) (n ∷ now) (t ∷ tuple) [] same many whole each = absurd (omega arith)
 learnt-all (b ∷ before) (n ∷ now) (t ∷ tuple) (None ∷ cell) same many whole each = let h
     = (each 0 (omega arith)).whole in cc
 learnt-all (b ∷ before) (n ∷ now) (t ∷ tuple) (Some code ∷ cell) same many whole each =
@@ -206,6 +199,7 @@ learnt-all (b ∷ before) (n ∷ now) (t ∷ tuple) (Some code ∷ cell) same ma
       codes = (code-within n t code first.code, rest.codes);
       whole = All-cons (λ (e : Option ℕ). is_some e ≡ true) (Some code) cell refl rest.whole;
     }
+learnt-all _ _ tuple cell same many whole each = absurd (omega arith)
 
 same-learnt : (before now now' : List Text) (text : Text) (entry entry' : Option ℕ) → now' ≡ now → entry' ≡ entry
     → IsTextLearnt before now text entry → IsTextLearnt before now' text entry'
@@ -252,10 +246,9 @@ learnt-more first before now cell cell' text dim code lt in_cell left is coded p
 
 tuple-at : (lists : List (List Text)) (tuple : List Text) (k : ℕ) → k < length lists → k < length tuple
     → get_or (with_tuple lists tuple) k [] ≡ learnt_in (get_or lists k []) (get_or tuple k [])
-tuple-at [] tuple k lt in_tuple = absurd (omega arith)
-tuple-at (texts ∷ lists) [] k lt in_tuple = absurd (omega arith)
 tuple-at (texts ∷ lists) (text ∷ tuple) zero lt in_tuple = refl
 tuple-at (texts ∷ lists) (text ∷ tuple) (suc k) lt in_tuple = tuple-at lists tuple k (omega arith) (omega arith)
+tuple-at _ tuple k lt in_tuple = absurd (omega arith)
 
 one-more : (texts : List Text) (text : Text) → code_in texts text ≡ None
     → length (learnt_in texts text) ≡ length texts + 1

@@ -227,9 +227,8 @@ refused-by false false refused x e = absurd (cc e)
 
 taken-by : (a b : Bool) (x : Applied) → None ≡ cond a (Some refusals.DimsFull) (cond b (Some refusals.NodesFull) None)
     → cond a (Err wide.DimsFull) (cond b (Err wide.NodesFull) (Ok x)) ≡ Ok x
-taken-by true b x e = absurd (cc e)
-taken-by false true x e = absurd (cc e)
 taken-by false false x e = refl
+taken-by _ b x e = absurd (cc e)
 
 -- no refusal shows that there is room
 pub room-free : (a : Bool) (most count : ℕ)

@@ -110,16 +110,16 @@ pub record IsTakenOut (id : ℕ) (row : Row ℕ) (table table' : Places) (tree t
   pub touches : TouchesOnly (row ∷ []) tree.now tree tree'
   pub steps : to ≤ from + cost_without table.dims (rows_of table) (row_with_id (rows_of table) id)
 
--- the rows of the deletions are gone, and the tree is that of the rows that are left
-pub record AreDeleted (changes : List (Change Text)) (table table' : Places) (tree tree' : Arena)
+-- the rows of these ids are gone, and the tree is that of the rows that are left
+pub record AreDeleted (ids : List ℕ) (table table' : Places) (tree tree' : Arena)
     (from to : ℕ) : Type 0 where
-  pub rows : rows_of table' ≡ kept (deleted changes) (rows_of table)
+  pub rows : rows_of table' ≡ kept ids (rows_of table)
   pub canonical : IsCanonical nat_cmp table.measures (rows_of table') tree'.now
   pub fits : length (nodes nat_cmp (rows_of table')) ≤ tree.max
   pub numbers : KeepsNodes (rows_of table') tree.now tree'.now
-  pub apart : KeepsOtherRecords (gone (deleted changes) (rows_of table)) tree.now tree'.now
-  pub touches : TouchesOnly (gone (deleted changes) (rows_of table)) tree.now tree tree'
-  pub steps : to ≤ from + cost_of_deletions table.dims (rows_of table) (deleted changes)
+  pub apart : KeepsOtherRecords (gone ids (rows_of table)) tree.now tree'.now
+  pub touches : TouchesOnly (gone ids (rows_of table)) tree.now tree tree'
+  pub steps : to ≤ from + cost_of_deletions table.dims (rows_of table) ids
 
 -- the rows and texts are changed, and the tree is that of the rows before a place, which are those that are left
 pub record RowsAreMade (schema : Layout) (changes : List (Change Text)) (first : ℕ) (cube cube' : Cube)

@@ -2,6 +2,7 @@
 ghost use Rattle.std.specs.Prelude.{IfErr, IfOk, IfSome, None, OnOk, Some, is_some, length, option_map, true, ◌≡◌, ◌≤◌};
 ghost use Rattle.base_table.specs.Places.{has_id, rows_of};
 ghost use Rattle.batch_delete.specs.Rests.{Deletion};
+ghost use Rattle.csv_load.specs.Batch.{deleted};
 ghost use Rattle.cube_defs.specs.Tree.{IsCanonical, nodes};
 ghost use Rattle.qc_arena.specs.Map as arena;
 ghost use Rattle.std.specs.Ordering.{nat_cmp};
@@ -74,7 +75,8 @@ pub(crate) fn delete_rows<L: Ledger>(
     ensures none { OnOk result
         (first_number (is_missing (ids_of (rows_of table.old))) batch.now.changes ≡ None) }
     ensures deleted { OnOk result
-        (AreDeleted batch.now.changes table.old table.new tree.old tree.new steps.old steps.new) }
+        (AreDeleted (deleted batch.now.changes) table.old table.new tree.old tree.new
+        steps.old steps.new) }
     ensures missing { IfErr result (λ refused. IfSome (refusal_in refused)
         (λ refusal. option_map (λ k. batches.Missing k)
         (first_number (is_missing (ids_of (rows_of table.old))) batch.now.changes)

@@ -1,4 +1,4 @@
-use Rattle.std.proofs.Common.{Err, List, None, Some, ◌≡◌, ◌≤◌, ◌+◌, ◌∙◌, ℕ, ap, length, map, refl, subst, sym, take}
+use Rattle.std.proofs.Common.{Err, List, None, Some, ◌≡◌, ◌≤◌, ◌+◌, ◌∙◌, ℕ, ap, length, map, refl, subst, sym, take, rules}
 use Rattle.std.proofs.lemmas.List.{length-map}
 use Rattle.std.specs.Option.{option_map}
 use Rattle.std.specs.Prelude.{IfSome}
@@ -51,22 +51,16 @@ pub lengths-lens-requires-clause-dims : goal.lengths-lens-requires-clause-dims
 lengths-lens-requires-clause-dims c =
     c.dims-dims.ensures.count ∙ sym c.requires.dims ∙ sym c.requires.can.lists
 
-pub insert_table_rows-requires-clause-can : goal.insert_table_rows-requires-clause-can
-insert_table_rows-requires-clause-can c =
-    subst (λ (t : Places). CanInsert c.args.dict.now t c.args.batch.now) (sym c.reserve.ensures) c.requires.can
-
-pub insert_table_rows-requires-clause-once : goal.insert_table_rows-requires-clause-once
-insert_table_rows-requires-clause-once c = c.requires.once
-
-pub insert_table_rows-requires-clause-new : goal.insert_table_rows-requires-clause-new
-insert_table_rows-requires-clause-new c =
-    subst (λ (t : Places). first_number (is_there (rows_of t)) c.args.batch.now.changes ≡ None)
-    (sym c.reserve.ensures) c.requires.new
-
-pub insert_table_rows-requires-clause-room : goal.insert_table_rows-requires-clause-room
-insert_table_rows-requires-clause-room c =
-    subst (λ (t : Places). length (rows_of t) + length (inserted c.args.batch.now.changes) ≤ t.max)
-    (sym c.reserve.ensures) c.requires.room
+pub insert_table_rows-requires : goal.insert_table_rows-requires
+insert_table_rows-requires c = record {
+  can = subst (λ (t : Places). CanInsert c.args.dict.now t c.args.batch.now) (sym c.reserve.ensures) c.requires.can;
+  once = c.requires.once;
+  new = subst (λ (t : Places). first_number (is_there (rows_of t)) c.args.batch.now.changes ≡ None)
+      (sym c.reserve.ensures) c.requires.new;
+  room = subst (λ (t : Places). length (rows_of t) + length (inserted c.args.batch.now.changes) ≤ t.max)
+      (sym c.reserve.ensures) c.requires.room;
+  cell_dims = search rules;
+}
 
 pub returns-in-Ok-clause-inserted : goal.returns-in-Ok-clause-inserted
 returns-in-Ok-clause-inserted c =
@@ -92,34 +86,32 @@ cut_back-requires c =
     ∙ length-map c.args.dict.now.lists (λ (texts : List Text). length texts)
     ∙ sym c.insert_table_rows.ensures.adds.longer.dims
 
-pub values_full-requires-clause-lens : goal.values_full-requires-clause-lens
-values_full-requires-clause-lens c =
-    let lens : take c.from.result c.lengths-lens.result ≡ map (λ (texts : List Text). length texts) c.args.dict.now.lists
-    = ap (λ (n : ℕ). take n c.lengths-lens.result) c.from.ensures ∙ c.lengths-lens.ensures.lengths in
+pub values_full-requires : goal.values_full-requires
+values_full-requires c =
     let adds = c.insert_table_rows.ensures.adds in
-    let back : c.cut_back.new.self ≡ c.args.dict.now =
-    cut-back c.args.dict.now c.insert_table_rows.new.dict c.cut_back.new.self
-    (take c.from.result c.lengths-lens.result) lens c.cut_back.ensures.lists c.cut_back.ensures.max adds.most_texts
-    adds.longer in
-    lens ∙ ap (λ (d : TextLists). map (λ (texts : List Text). length texts) d.lists) (sym back)
-
-pub values_full-requires-clause-can : goal.values_full-requires-clause-can
-values_full-requires-clause-can c = record {
-  lists = c.cut_back.ensures.dims ∙ c.insert_table_rows.ensures.adds.longer.dims ∙ c.requires.can.lists;
-  dictionary = c.cut_back.ensures.dictionary;
-  valid = c.requires.can.valid;
-}
-
-pub values_full-requires-clause-over : goal.values_full-requires-clause-over
-values_full-requires-clause-over c =
-    let adds = c.insert_table_rows.ensures.adds in
-    let back : c.cut_back.new.self ≡ c.args.dict.now =
-    cut-back c.args.dict.now c.insert_table_rows.new.dict c.cut_back.new.self
-    (take c.from.result c.lengths-lens.result)
-    (ap (λ (n : ℕ). take n c.lengths-lens.result) c.from.ensures ∙ c.lengths-lens.ensures.lengths)
-    c.cut_back.ensures.lists c.cut_back.ensures.max adds.most_texts adds.longer in
-    subst (λ (d : TextLists). IsOver d.max (texts_after d.lists c.args.batch.now.changes)) (sym back)
-    (c.in-Err-Full.ensures.full (ap Err c.in-Err-Full.field-0-is))
+    record {
+      lens =
+          let lens : take c.from.result c.lengths-lens.result ≡ map (λ (texts : List Text). length texts) c.args.dict.now.lists
+          = ap (λ (n : ℕ). take n c.lengths-lens.result) c.from.ensures ∙ c.lengths-lens.ensures.lengths in
+          let back : c.cut_back.new.self ≡ c.args.dict.now =
+          cut-back c.args.dict.now c.insert_table_rows.new.dict c.cut_back.new.self
+          (take c.from.result c.lengths-lens.result) lens c.cut_back.ensures.lists c.cut_back.ensures.max adds.most_texts
+          adds.longer in
+          lens ∙ ap (λ (d : TextLists). map (λ (texts : List Text). length texts) d.lists) (sym back);
+      can = record {
+        lists = c.cut_back.ensures.dims ∙ c.insert_table_rows.ensures.adds.longer.dims ∙ c.requires.can.lists;
+        dictionary = c.cut_back.ensures.dictionary;
+        valid = c.requires.can.valid;
+      };
+      over =
+          let back : c.cut_back.new.self ≡ c.args.dict.now =
+          cut-back c.args.dict.now c.insert_table_rows.new.dict c.cut_back.new.self
+          (take c.from.result c.lengths-lens.result)
+          (ap (λ (n : ℕ). take n c.lengths-lens.result) c.from.ensures ∙ c.lengths-lens.ensures.lengths)
+          c.cut_back.ensures.lists c.cut_back.ensures.max adds.most_texts adds.longer in
+          subst (λ (d : TextLists). IsOver d.max (texts_after d.lists c.args.batch.now.changes)) (sym back)
+          (c.in-Err-Full.ensures.full (ap Err c.in-Err-Full.field-0-is));
+    }
 
 pub returns-in-Err-Full-clause-full : goal.returns-in-Err-Full-clause-full
 returns-in-Err-Full-clause-full c =

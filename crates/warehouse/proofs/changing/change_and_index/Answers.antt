@@ -1,8 +1,8 @@
-use Rattle.std.proofs.Common.{Option, arith, ◌∙◌, ℕ, ap, refl, subst, sym}
+use Rattle.std.proofs.Common.{Option, arith, ◌∙◌, ℕ, ap, subst, sym}
 use Rattle.std.specs.Prelude.{IfSome}
 use Rattle.base_table.specs.Places.{Places, rows_of}
 use Rattle.qc_arena.specs.Codes.{Shape}
-use Rattle.qc_arena.specs.Map.{Arena, is_open, is_touched}
+use Rattle.qc_arena.specs.Map.{Arena, is_touched}
 use Rattle.warehouse.specs.Changing.{IsInPlace, state_in}
 use Rattle.warehouse.specs.State.{IsIndexed}
 use Rattle.warehouse.specs.Stored.{IsTreeOfSome}
@@ -31,28 +31,6 @@ returns-in-Ok-make_index-clause-loaded g c = λ load.
     let indexed = c.make_index.ensures.scratch load.scratch in
     omega (arith, built, indexed)
 
-pub change_and_build-requires-clause-begun : goal.change_and_build-requires-clause-begun
-change_and_build-requires-clause-begun g c = c.requires.begun
-
-pub change_and_build-requires-clause-fit : goal.change_and_build-requires-clause-fit
-change_and_build-requires-clause-fit g c = c.requires.fit
-
-pub returns-in-Err-clause-cause : goal.returns-in-Err-clause-cause
-returns-in-Err-clause-cause g c = c.in-Err.ensures.cause
-
-pub returns-in-Err-clause-frames : goal.returns-in-Err-clause-frames
-returns-in-Err-clause-frames g c = c.change_and_build.ensures.frames
-
-pub returns-in-Err-clause-same_index : goal.returns-in-Err-clause-same_index
-returns-in-Err-clause-same_index g c = refl
-
-pub make_index-requires-clause-opened : goal.make_index-requires-clause-opened
-make_index-requires-clause-opened g c =
-    ap is_open c.change_and_build.ensures.frames.of_tree ∙ c.requires.begun.tree_open
-
-pub returns-in-Ok-make_index-clause-made : goal.returns-in-Ok-make_index-clause-made
-returns-in-Ok-make_index-clause-made g c = c.in-Ok.ensures.made
-
 pub returns-in-Ok-make_index-clause-in_place : goal.returns-in-Ok-make_index-clause-in_place
 returns-in-Ok-make_index-clause-in_place g c = λ in_place.
     let old = c.args.cube.now in
@@ -60,15 +38,3 @@ returns-in-Ok-make_index-clause-in_place g c = λ in_place.
     subst (λ (to : ℕ). IsInPlace (state_in c.args.schema.now old) c.args.batch.changes built.dict.lists old.tree.now
     built.tree.now (is_touched built.tree) c.args.steps.now to) (sym (c.make_index.ensures.steps in_place))
     (c.in-Ok.ensures.in_place in_place)
-
-pub returns-in-Ok-make_index-clause-frames : goal.returns-in-Ok-make_index-clause-frames
-returns-in-Ok-make_index-clause-frames g c = c.change_and_build.ensures.frames
-
-pub returns-in-Ok-make_index-clause-indexed : goal.returns-in-Ok-make_index-clause-indexed
-returns-in-Ok-make_index-clause-indexed g c = c.in-Ok-make_index.ensures.indexed
-
-pub returns-in-Err-make_index-clause-frames : goal.returns-in-Err-make_index-clause-frames
-returns-in-Err-make_index-clause-frames g c = c.change_and_build.ensures.frames
-
-pub returns-in-Err-make_index-clause-same_index : goal.returns-in-Err-make_index-clause-same_index
-returns-in-Err-make_index-clause-same_index g c = c.in-Err-make_index.ensures.err

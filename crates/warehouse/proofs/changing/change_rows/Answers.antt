@@ -16,77 +16,32 @@ use Rattle.warehouse.specs.State.{State}
 use Rattle.warehouse.specs.Steps.{last_refusal, rows_before}
 use Rattle.warehouse.specs.Stored.{decoded_rows, refusal_in, state_of}
 use Rattle.value_dict.specs.Decoded.{AreCodes}
+use Rattle.warehouse.proofs.Batches.{added-frames, same-frames}
 use Rattle.warehouse.proofs.Causes.{cause-present, cause-rows, caused, count-decoded, missing-caused, missing-decoded, passed}
 use Rattle.warehouse.proofs.Causes.{present-decoded, rows-decoded}
 use Rattle.warehouse.proofs.Inserting.{place-within, rows-prefix}
-use Rattle.warehouse.proofs.Texts.{full-none, longer-same}
+use Rattle.warehouse.proofs.Texts.{full-none}
 use Rattle.warehouse.proofs.changing.change_rows.Goals as goal
-
-pub delete_rows-requires-clause-open : goal.delete_rows-requires-clause-open
-delete_rows-requires-clause-open g c = record {
-  opened = c.requires.begun.tree_open;
-  width = c.requires.begun.width ∙ sym c.requires.begun.stored.dims;
-}
 
 pub returns-in-Err-clause-frames : goal.returns-in-Err-clause-frames
 returns-in-Err-clause-frames g c =
-    record {
-      longer = longer-same c.args.cube.now.dict.lists;
-      most_texts = refl;
-      dictionary
-          = c.requires.begun.stored.dictionary;
-      of_table = c.delete_rows.ensures.frame;
-      of_tree
-          = c.delete_rows.ensures.tree_frame;
-    }
+    same-frames _ _ refl c.requires.begun.stored.dictionary c.delete_rows.ensures.frame c.delete_rows.ensures.tree_frame
 
 pub returns-in-Some-clause-frames : goal.returns-in-Some-clause-frames
 returns-in-Some-clause-frames g c =
-    record {
-      longer = longer-same c.args.cube.now.dict.lists;
-      most_texts = refl;
-      dictionary
-          = c.requires.begun.stored.dictionary;
-      of_table = c.delete_rows.ensures.frame;
-      of_tree
-          = c.delete_rows.ensures.tree_frame;
-    }
+    same-frames _ _ refl c.requires.begun.stored.dictionary c.delete_rows.ensures.frame c.delete_rows.ensures.tree_frame
 
 pub returns-then-is_full-clause-frames : goal.returns-then-is_full-clause-frames
 returns-then-is_full-clause-frames g c =
-    record {
-      longer = longer-same c.args.cube.now.dict.lists;
-      most_texts = refl;
-      dictionary
-          = c.requires.begun.stored.dictionary;
-      of_table = c.delete_rows.ensures.frame;
-      of_tree
-          = c.delete_rows.ensures.tree_frame;
-    }
+    same-frames _ _ refl c.requires.begun.stored.dictionary c.delete_rows.ensures.frame c.delete_rows.ensures.tree_frame
 
 pub returns-in-Err-add_rows-clause-frames : goal.returns-in-Err-add_rows-clause-frames
 returns-in-Err-add_rows-clause-frames g c =
-    let adds = c.add_rows.ensures.adds in
-    record {
-      longer = adds.longer;
-      most_texts = adds.most_texts;
-      dictionary = adds.dictionary;
-      of_table
-          = adds.frame ∙ c.delete_rows.ensures.frame;
-      of_tree = c.delete_rows.ensures.tree_frame;
-    }
+    added-frames _ _ _ c.add_rows.ensures.adds c.delete_rows.ensures.frame c.delete_rows.ensures.tree_frame
 
 pub returns-clause-frames : goal.returns-clause-frames
 returns-clause-frames g c =
-    let adds = c.add_rows.ensures.adds in
-    record {
-      longer = adds.longer;
-      most_texts = adds.most_texts;
-      dictionary = adds.dictionary;
-      of_table
-          = adds.frame ∙ c.delete_rows.ensures.frame;
-      of_tree = c.delete_rows.ensures.tree_frame;
-    }
+    added-frames _ _ _ c.add_rows.ensures.adds c.delete_rows.ensures.frame c.delete_rows.ensures.tree_frame
 
 pub returns-in-Err-clause-cause : goal.returns-in-Err-clause-cause
 returns-in-Err-clause-cause g c =

@@ -1,4 +1,4 @@
-use Rattle.std.proofs.Common.{Err, Ok, Result, ◌≡◌, ◌∙◌, ℕ, refl, subst, sym}
+use Rattle.std.proofs.Common.{Err, Ok, Result, ◌≡◌, ℕ, refl, subst, sym}
 use Rattle.std.proofs.lemmas.List.Elements.{All-push}
 use Rattle.base_table.specs.Places.{Places, row_of, rows_of}
 use Rattle.csv_load.specs.Batch.{change_at}
@@ -34,22 +34,6 @@ ok-is-not-full r ok full = cc
 memory-is-not-full : (r : Result (Unit {0}) Learn) → r ≡ Err learns.Memory → r ≡ Err learns.Full → ⊥
 memory-is-not-full r memory full = cc
 
-pub learn_tuple-requires-clause-insertion : goal.learn_tuple-requires-clause-insertion
-learn_tuple-requires-clause-insertion c = c.requires.insertion
-
-pub learn_tuple-requires-clause-cell_dims : goal.learn_tuple-requires-clause-cell_dims
-learn_tuple-requires-clause-cell_dims c = c.requires.cell_dims
-
-pub learn_tuple-requires-clause-can : goal.learn_tuple-requires-clause-can
-learn_tuple-requires-clause-can c = record {
-  lists = c.requires.can.lists;
-  dictionary = c.requires.can.dictionary;
-  valid = c.requires.can.valid;
-}
-
-pub returns-in-Err-clause-full : goal.returns-in-Err-clause-full
-returns-in-Err-clause-full c = c.in-Err.ensures.full
-
 pub returns-in-Err-clause-adds : goal.returns-in-Err-clause-adds
 returns-in-Err-clause-adds c = record {
   longer = c.learn_tuple.ensures.longer;
@@ -58,33 +42,6 @@ returns-in-Err-clause-adds c = record {
   front = prefix-same c.args.table.now;
   frame = refl;
 }
-
-pub returns-in-Err-clause-cell_dims : goal.returns-in-Err-clause-cell_dims
-returns-in-Err-clause-cell_dims c = c.learn_tuple.ensures.cell_dims
-
-pub id-requires : goal.id-requires
-id-requires c = c.requires.insertion.there
-
-pub amounts-requires : goal.amounts-requires
-amounts-requires c = c.requires.insertion
-
-pub insert-requires-clause-is_open : goal.insert-requires-clause-is_open
-insert-requires-clause-is_open c = c.requires.can.is_open
-
-pub insert-requires-clause-dims : goal.insert-requires-clause-dims
-insert-requires-clause-dims c = c.learn_tuple.ensures.cell_dims ∙ c.requires.cell_dims ∙ sym c.requires.can.dims
-
-pub insert-requires-clause-no_any : goal.insert-requires-clause-no_any
-insert-requires-clause-no_any c = c.in-Ok.ensures.learnt.whole
-
-pub returns-in-Ok-insert-clause-full : goal.returns-in-Ok-insert-clause-full
-returns-in-Ok-insert-clause-full c = λ e. absurd (ok-is-not-full _ refl e)
-
-pub returns-in-Ok-insert-clause-cell_dims : goal.returns-in-Ok-insert-clause-cell_dims
-returns-in-Ok-insert-clause-cell_dims c = c.learn_tuple.ensures.cell_dims
-
-pub returns-in-Err-Memory-clause-full : goal.returns-in-Err-Memory-clause-full
-returns-in-Err-Memory-clause-full c = λ e. absurd (memory-is-not-full _ refl e)
 
 pub returns-in-Err-Memory-clause-adds : goal.returns-in-Err-Memory-clause-adds
 returns-in-Err-Memory-clause-adds c =
@@ -97,6 +54,3 @@ returns-in-Err-Memory-clause-adds c =
       front = prefix-same c.args.table.now;
       frame = refl;
     })
-
-pub returns-in-Err-Memory-clause-cell_dims : goal.returns-in-Err-Memory-clause-cell_dims
-returns-in-Err-Memory-clause-cell_dims c = c.learn_tuple.ensures.cell_dims

@@ -1,4 +1,4 @@
-use Rattle.std.proofs.Common.{◌≡◌, ◌<◌, ◌+◌, ◌∙◌, ◌++◌, ◌∷◌, List, [], ap, ap₂, append-nil, append_assoc, arith, false, is_some, length}
+use Rattle.std.proofs.Common.{◌≡◌, ◌<◌, ◌+◌, ◌∙◌, ◌++◌, ◌∷◌, List, [], ap, ap₂, append-nil, append_assoc, arith, false, length}
 use Rattle.std.proofs.Common.{refl, sym, take, true}
 use Rattle.base_table.specs.Places.{Places, rows_of}
 use Rattle.csv_load.specs.Batch.{change_at, inserted, is_deletion}
@@ -32,23 +32,6 @@ changes-init c = record {
   };
   cell = refl;
 }
-
-pub insert_table_row-requires-clause-cell_dims : goal.insert_table_row-requires-clause-cell_dims
-insert_table_row-requires-clause-cell_dims c = c.changes.invariant.cell ∙ c.requires.cell_dims
-
-pub insert_table_row-requires-clause-can : goal.insert_table_row-requires-clause-can
-insert_table_row-requires-clause-can c =
-    let inv = c.changes.invariant in
-    let can = c.requires.can in
-    record {
-      lists = inv.adds.longer.dims ∙ can.lists;
-      dims = ap (λ (t : Places). t.dims) inv.adds.frame ∙ can.dims;
-      measures = ap (λ (t : Places). t.measures) inv.adds.frame ∙ can.measures;
-      is_open = ap (λ (t : Places). is_some t.was) inv.adds.frame ∙ can.is_open;
-      dictionary = inv.adds.dictionary;
-      known = inv.inserted.known;
-      valid = can.valid;
-    }
 
 pub insert_table_row-requires-clause-new : goal.insert_table_row-requires-clause-new
 insert_table_row-requires-clause-new c =

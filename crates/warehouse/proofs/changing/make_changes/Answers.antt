@@ -1,11 +1,11 @@
-use Rattle.std.proofs.Common.{◌≤◌, ◌+◌, ◌∙◌, ℕ, List, ap, is_some, length, refl, subst, sym, take}
+use Rattle.std.proofs.Common.{◌≤◌, ◌+◌, ◌∙◌, ℕ, List, ap, length, subst, sym, take, rules}
 use Rattle.std.proofs.lemmas.List.{length-map}
 use Rattle.std.specs.Prelude.{IfSome}
 use Rattle.cube_defs.specs.Tree.{Tree}
-use Rattle.base_table.specs.Places.{Places, rows_of}
+use Rattle.base_table.specs.Places.{rows_of}
 use Rattle.cube_defs.specs.Text.{Text}
 use Rattle.measure_index.specs.Rankings.{Ranking}
-use Rattle.qc_arena.specs.Map.{Arena, is_open}
+use Rattle.qc_arena.specs.Map.{Arena}
 use Rattle.warehouse.specs.Changing.{AreAsBefore, state_in}
 use Rattle.warehouse.specs.Loading.{IsLoad, cost_of_tree}
 use Rattle.warehouse.specs.State.{Contents, IsIndexed}
@@ -67,15 +67,10 @@ returns-in-Ok-change_and_index-clause-images g c =
     (ap (λ (cube : Cube). cube.tree) c.begin-lens.ensures.opened) c.change_and_index.ensures.frames.of_tree
     c.commit.ensures.images
 
-pub returns-in-Err-change_and_index-clause-gives : goal.returns-in-Err-change_and_index-clause-gives
-returns-in-Err-change_and_index-clause-gives g c =
+pub returns-in-Err-change_and_index : goal.returns-in-Err-change_and_index
+returns-in-Err-change_and_index g c =
     let changes = c.args.batch.changes in
-    refused-so (state_in c.args.schema.now c.args.cube.now) changes (refusal_in c.in-Err-change_and_index.refused)
-    (subst (λ (cube : Cube). IsCause c.in-Err-change_and_index.refused (state_in c.args.schema.now cube) changes)
-    c.begin-lens.ensures.opened c.in-Err-change_and_index.ensures.cause)
-
-pub returns-in-Err-change_and_index-clause-same : goal.returns-in-Err-change_and_index-clause-same
-returns-in-Err-change_and_index-clause-same g c =
+    let same_index = c.in-Err-change_and_index.ensures.same_index in
     let back : AreAsBefore c.args.schema.now c.args.cube.now c.roll_back.new.self =
     taken-back c.args.schema.now c.args.cube.now c.begin-lens.new.self c.change_and_index.new.cube
     c.requires.parts.stored c.requires.parts.kept c.begin-lens.ensures.opened c.change_and_index.ensures.frames
@@ -83,31 +78,29 @@ returns-in-Err-change_and_index-clause-same g c =
     (ap (λ (n : ℕ). take n c.begin-lens.result) (c.from.ensures ∙ c.dims.ensures.count)
     ∙ c.begin-lens.ensures.lens) c.roll_back.ensures in
     let images = back.images ∙ sym c.requires.images in
-    let index = c.in-Err-change_and_index.ensures.same_index in
-    λ j. let held : Contents = record {
-      state = back.same_state j;
-      tree = back.same_tree j;
-      index = index j;
-      images
-          = images j;
-    } in held
-
-pub returns-in-Err-change_and_index-clause-parts : goal.returns-in-Err-change_and_index-clause-parts
-returns-in-Err-change_and_index-clause-parts g c =
-    let back : AreAsBefore c.args.schema.now c.args.cube.now c.roll_back.new.self =
-    taken-back c.args.schema.now c.args.cube.now c.begin-lens.new.self c.change_and_index.new.cube
-    c.requires.parts.stored c.requires.parts.kept c.begin-lens.ensures.opened c.change_and_index.ensures.frames
-    c.roll_back.new.self (take c.from.result c.begin-lens.result)
-    (ap (λ (n : ℕ). take n c.begin-lens.result) (c.from.ensures ∙ c.dims.ensures.count)
-    ∙ c.begin-lens.ensures.lens) c.roll_back.ensures in
     record {
-      stored = back.stored;
-      kept = back.kept;
-      indexed =
-          subst (λ (index : List Ranking). IsIndexed c.args.schema.now c.roll_back.new.self.tree.now index)
-          (sym c.in-Err-change_and_index.ensures.same_index)
-          (subst (λ (t : Tree ℕ). IsIndexed c.args.schema.now t c.args.index.now)
-          (sym back.same_tree) c.requires.parts.indexed);
+      parts = record {
+        stored = back.stored;
+        kept = back.kept;
+        indexed =
+            subst (λ (index : List Ranking). IsIndexed c.args.schema.now c.roll_back.new.self.tree.now index)
+            (sym same_index)
+            (subst (λ (t : Tree ℕ). IsIndexed c.args.schema.now t c.args.index.now)
+            (sym back.same_tree) c.requires.parts.indexed);
+      };
+      gives =
+          refused-so (state_in c.args.schema.now c.args.cube.now) changes (refusal_in c.in-Err-change_and_index.refused)
+          (subst (λ (cube : Cube). IsCause c.in-Err-change_and_index.refused (state_in c.args.schema.now cube) changes)
+          c.begin-lens.ensures.opened c.in-Err-change_and_index.ensures.cause);
+      same = λ j. let held : Contents = record {
+        state = back.same_state j;
+        tree = back.same_tree j;
+        index = same_index j;
+        images = images j;
+      } in held;
+      in_place = search rules;
+      loaded = search rules;
+      images = search rules;
     }
 
 pub returns-in-Ok-change_and_index-clause-loaded : goal.returns-in-Ok-change_and_index-clause-loaded
@@ -117,37 +110,6 @@ returns-in-Ok-change_and_index-clause-loaded g c = λ load.
     subst (λ (t : Tree ℕ). c.change_and_index.new.steps ≤ c.args.steps.now
     + cost_of_tree (length c.args.schema.now.dims) t) (sym (ap (λ (a : Arena). a.now) c.commit.ensures.of_tree))
     (c.in-Ok-change_and_index.ensures.loaded begun)
-
-pub returns-in-Err-clause-same : goal.returns-in-Err-clause-same
-returns-in-Err-clause-same g c = refl
-
-pub returns-in-Err-clause-parts : goal.returns-in-Err-clause-parts
-returns-in-Err-clause-parts g c = c.requires.parts
-
-pub begin-lens-requires-clause-stored : goal.begin-lens-requires-clause-stored
-begin-lens-requires-clause-stored g c = c.requires.parts.stored
-
-pub begin-lens-requires-clause-kept : goal.begin-lens-requires-clause-kept
-begin-lens-requires-clause-kept g c = c.requires.parts.kept
-
-pub change_and_index-requires-clause-begun : goal.change_and_index-requires-clause-begun
-change_and_index-requires-clause-begun g c = c.begin-lens.ensures.begun
-
-pub commit-requires-clause-rows : goal.commit-requires-clause-rows
-commit-requires-clause-rows g c =
-    ap (λ (t : Places). is_some t.was) c.change_and_index.ensures.frames.of_table ∙ c.begin-lens.ensures.begun.rows_open
-
-pub commit-requires-clause-tree : goal.commit-requires-clause-tree
-commit-requires-clause-tree g c =
-    ap is_open c.change_and_index.ensures.frames.of_tree ∙ c.begin-lens.ensures.begun.tree_open
-
-pub roll_back-requires-clause-rows : goal.roll_back-requires-clause-rows
-roll_back-requires-clause-rows g c =
-    ap (λ (t : Places). is_some t.was) c.change_and_index.ensures.frames.of_table ∙ c.begin-lens.ensures.begun.rows_open
-
-pub roll_back-requires-clause-tree : goal.roll_back-requires-clause-tree
-roll_back-requires-clause-tree g c =
-    ap is_open c.change_and_index.ensures.frames.of_tree ∙ c.begin-lens.ensures.begun.tree_open
 
 pub roll_back-requires-clause-lens : goal.roll_back-requires-clause-lens
 roll_back-requires-clause-lens g c =

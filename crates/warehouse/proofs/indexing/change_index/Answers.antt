@@ -1,4 +1,4 @@
-use Rattle.std.proofs.Common.{ℕ, Option, List, ◌∙◌, refl, subst, sym}
+use Rattle.std.proofs.Common.{ℕ, Option, List, ◌∙◌, subst, sym}
 use Rattle.std.specs.List.{All}
 use Rattle.aggregates.specs.declared.agg.Agg.{Agg}
 use Rattle.cell_core.specs.declared.cell.NodeNo.{NodeNo}
@@ -46,9 +46,3 @@ returns-clause-indexed c =
           (subst (λ (class : ℕ → Option defs.Agg). IsIndex class c.args.index.now) (sym b.was) b.indexed.classes);
       kinds = c.change.ensures.units ∙ b.indexed.kinds;
     }) c.change.ensures.classes
-
-pub returns-in-Err-clause-err : goal.returns-in-Err-clause-err
-returns-in-Err-clause-err c = refl
-
-pub returns-in-Err-classes_added-clause-err : goal.returns-in-Err-classes_added-clause-err
-returns-in-Err-classes_added-clause-err c = refl

@@ -26,6 +26,3 @@ returns-clause-value c =
       c.measures-test.false,
       c.measures-measure-end.ensures,
     )))
-
-pub returns-clause-layout : goal.returns-clause-layout
-returns-clause-layout c = c.dims-dims.ensures.layout

@@ -1,4 +1,4 @@
-use Rattle.std.proofs.Common.{◌∷◌, zero, suc, Err, ◌≡◌, ◌<◌, ◌+◌, ◌∙◌, ℕ, List, [], ap, ap₂, arith, false, get_or, length, refl, set, sym}
+use Rattle.std.proofs.Common.{◌∷◌, suc, Err, ◌≡◌, ◌<◌, ◌+◌, ◌∙◌, ℕ, List, [], ap, ap₂, arith, false, get_or, length, refl, set, sym}
 use Rattle.std.proofs.Common.{take, true}
 use Rattle.std.proofs.lemmas.List.{get_or-set_same}
 use Rattle.cube_defs.specs.Text.{Text}
@@ -11,9 +11,8 @@ use Rattle.warehouse.proofs.learning.learn_column.Goals as goal
 use Rattle.warehouse.proofs.learning.learn_column.Goals.{then-not-is_delete+in-Ok, else-not-is_delete}
 
 set-get_or : (lists : List (List Text)) (k : ℕ) → set lists k (get_or lists k []) ≡ lists
-set-get_or [] k = refl
-set-get_or (texts ∷ lists) zero = refl
 set-get_or (texts ∷ lists) (suc k) = ap (λ (ls : List (List Text)). texts ∷ ls) (set-get_or lists k)
+set-get_or _ k = refl
 
 pub changes-init : goal.changes-init
 changes-init c = record {

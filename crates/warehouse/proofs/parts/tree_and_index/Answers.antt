@@ -35,9 +35,3 @@ returns-clause-tree g c =
     (ap (λ (a : Arena). a.width) c.drop_images.ensures ∙ ap (λ (a : Arena). a.width) c.commit.ensures.value ∙ is.width)
     (ap (λ (a : Arena). a.max) c.drop_images.ensures ∙ ap (λ (a : Arena). a.max) c.commit.ensures.value ∙ is.max)
     is.few (subst (λ (tree : Tree ℕ). IsCanonical nat_cmp t.measures (rows_of t) tree) (sym now) is.canonical)
-
-pub returns-clause-index : goal.returns-clause-index
-returns-clause-index g c =
-    let now = ap (λ (a : Arena). a.now) c.drop_images.ensures ∙ ap (λ (a : Arena). a.now) c.commit.ensures.value in
-    subst (λ (tree : Tree ℕ). IsIndexed c.args.schema.now tree c.build_index.new.index)
-    (sym now) c.in-Ok-build_index.ensures.indexed

@@ -3,19 +3,13 @@ use Rattle.std.specs.Ordering.{nat_cmp}
 use Rattle.base_table.specs.Places.{rows_of}
 use Rattle.cube_defs.specs.Rows.{Row}
 use Rattle.cube_defs.specs.Tree.{IsCanonical, nodes}
-use Rattle.qc_arena.specs.Map.{Arena, is_open}
+use Rattle.qc_arena.specs.Map.{Arena}
 use Rattle.warehouse.specs.InPlace.{KeepsOtherRecords, TouchesOnly, cost_of_insertions}
 use Rattle.warehouse.specs.Steps.{rows_before}
 use Rattle.warehouse.proofs.TreeInsertions.{apart-later, apart-more, apart-none, between-all, nodes-before, rows-whole, steps-more}
 use Rattle.warehouse.proofs.TreeInsertions.{steps-none}
 use Rattle.warehouse.proofs.Touching.{touched-more}
 use Rattle.warehouse.proofs.row_insertion.insert_in_tree.Goals as goal
-
-pub insert_in_tree_at-requires-clause-open : goal.insert_in_tree_at-requires-clause-open
-insert_in_tree_at-requires-clause-open g c = record {
-  opened = ap is_open c.rows.invariant.frame ∙ c.requires.open.opened;
-  width = ap (λ (a : Arena). a.width) c.rows.invariant.frame ∙ c.requires.open.width;
-}
 
 pub returns-in-Err-clause-full : goal.returns-in-Err-clause-full
 returns-in-Err-clause-full g c = λ e.

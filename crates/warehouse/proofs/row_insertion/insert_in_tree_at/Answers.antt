@@ -1,6 +1,6 @@
 use Rattle.std.proofs.Common.{ap}
 use Rattle.qc_arena.specs.Map.{Arena}
-use Rattle.warehouse.proofs.TreeInsertions.{full-at, none-came, none-costs, row-apart, row-came, row-costs, row-full, row-there}
+use Rattle.warehouse.proofs.TreeInsertions.{full-at, none-came, row-apart, row-came, row-costs, row-full, row-there}
 use Rattle.warehouse.proofs.TreeInsertions.{source-before}
 use Rattle.warehouse.proofs.Touching.{touched-place}
 use Rattle.warehouse.proofs.row_insertion.insert_in_tree_at.Goals as goal
@@ -41,13 +41,6 @@ returns-in-Err-clause-full g c = λ e.
     c.in-Some.ensures.some.0 c.in-Some.ensures.some.1 c.tuple-tuple.ensures.value c.amounts.ensures.value)
     c.amounts.ensures.measures (c.in-Err.ensures.full e)
 
-pub returns-in_default-clause-apart : goal.returns-in_default-clause-apart
-returns-in_default-clause-apart g c = λ k n h all. h
-
-pub returns-in_default-clause-steps : goal.returns-in_default-clause-steps
-returns-in_default-clause-steps g c
-    = none-costs c.args.table.now c.args.place c.args.steps.now (c.at.ensures.none c.in_default.is)
-
 pub returns-in-Ok-clause-apart : goal.returns-in-Ok-clause-apart
 returns-in-Ok-clause-apart g c =
     row-apart c.args.table.now c.args.place c.tuple-tuple.result c.amounts.result.now
@@ -69,9 +62,6 @@ returns-in-Ok-clause-steps g c =
     (row-there c.args.table.now c.args.place c.in-Some.row.0 c.tuple-tuple.result c.amounts.result.now
     c.in-Some.ensures.some.0 c.in-Some.ensures.some.1 c.tuple-tuple.ensures.value c.amounts.ensures.value)
     c.amounts.ensures.measures c.args.steps.now c.insert_row.new.steps c.in-Ok.ensures.steps c.tuple-tuple.ensures.dims
-
-pub returns-in_default-clause-touches : goal.returns-in_default-clause-touches
-returns-in_default-clause-touches g c = λ q apart was. was
 
 pub returns-in-Ok-clause-touches : goal.returns-in-Ok-clause-touches
 returns-in-Ok-clause-touches g c =

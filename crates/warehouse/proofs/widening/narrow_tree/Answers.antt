@@ -4,7 +4,7 @@ use Rattle.std.specs.FinMap as finmap
 use Rattle.std.specs.Option.{option_map}
 use Rattle.cell_core.specs.declared.cell.NodeNo.{NodeNo}
 use Rattle.cube_defs.specs.Tree.{Tree}
-use Rattle.qc_arena.specs.Map.{Arena, is_open}
+use Rattle.qc_arena.specs.Map.{Arena}
 use Rattle.qc_arena.specs.Resized.{resized}
 use Rattle.warehouse.specs.ClassMoves.{HaveChildren}
 use Rattle.qc_arena.specs.Lowered.{TakesBack}
@@ -25,18 +25,6 @@ item_at : (dims place : ℕ) (tree wide : Tree ℕ) (old now : List NodeNo) (c :
 item_at dims place tree wide old now c some was same =
     slice_get-get_or now (place - 1) c (omega (arith, some, was.within, was.long)) ∙ ap (λ (y : NodeNo). Some y) (sym same)
 
-pub places-init : goal.places-init
-places-init g c = record { way = λ first old h. h; rest = refl; steps = refl }
-
-pub index-requires : goal.index-requires
-index-requires g c =
-    let had = c.requires.moved in
-    let was = c.places.invariant.way had.0 had.1 had.2 in
-    omega (arith, c.places-test.true, was.within, was.long)
-
-pub take_back-requires-clause-closed : goal.take_back-requires-clause-closed
-take_back-requires-clause-closed g c = ap is_open c.places.invariant.rest ∙ c.requires.closed
-
 pub take_back-requires-clause-child : goal.take_back-requires-clause-child
 take_back-requires-clause-child g c =
     let had = c.requires.moved in
@@ -45,12 +33,6 @@ take_back-requires-clause-child g c =
     is_child (c.args.tree.now.width - 1) (c.places.place - 1) had.0 c.places.tree.now had.1 now c.index.result.now
     (before _ _ _ _ _ _ c.places-test.true was)
     (item_at _ c.places.place _ _ _ now c.index.result.now c.places-test.true was c.index.ensures)
-
-pub index_mut-requires : goal.index_mut-requires
-index_mut-requires g c =
-    let had = c.requires.moved in
-    let was = c.places.invariant.way had.0 had.1 had.2 in
-    omega (arith, c.places-test.true, was.within, was.long)
 
 pub places-preserved : goal.places-preserved
 places-preserved g c = record {
@@ -67,13 +49,6 @@ places-preserved g c = record {
       ∙ ap (λ (a : Arena). let b : Arena = record a { now = c.take_back.new.self.now } in b) c.places.invariant.rest;
   steps = omega (arith, c.places.invariant.steps, c.take_back.ensures.steps, c.places-test.true);
 }
-
-pub narrow-requires-clause-closed : goal.narrow-requires-clause-closed
-narrow-requires-clause-closed g c = ap is_open c.places.invariant.rest ∙ c.requires.closed
-
-pub narrow-requires-clause-some : goal.narrow-requires-clause-some
-narrow-requires-clause-some g c
-    = subst (λ (a : Arena). 1 < a.width) (sym c.places.invariant.rest) c.requires.some
 
 pub narrow-requires-clause-free : goal.narrow-requires-clause-free
 narrow-requires-clause-free g c = λ q n at.
@@ -94,15 +69,3 @@ returns-clause-back g c = λ first old h.
     (subst (λ n. HaveChildren (c.args.tree.now.width - 1) n first c.places.tree.now old c.places.classes.items) none
     (c.places.invariant.way first old h)) c.narrow.new.self.now
     (λ q. c.narrow.ensures.nodes q ∙ ap (λ n. option_map (resized n) (finmap.get c.places.tree.now q)) width)
-
-pub returns-clause-rest : goal.returns-clause-rest
-returns-clause-rest g c =
-    let width : c.narrow.new.self.width ≡ c.args.tree.now.width - 1
-    = omega (arith, c.narrow.ensures.width, ap (λ (a : Arena). a.width) c.places.invariant.rest) in
-    c.narrow.ensures.value
-    ∙ ap (λ (a : Arena). let b : Arena = record a { width = c.narrow.new.self.width; now = c.narrow.new.self.now } in b)
-    c.places.invariant.rest
-    ∙ ap (λ (n : ℕ). let b : Arena = record c.args.tree.now { width = n; now = c.narrow.new.self.now } in b) width
-
-pub returns-clause-steps : goal.returns-clause-steps
-returns-clause-steps g c = omega (arith, c.places.invariant.steps, c.places-test.false)

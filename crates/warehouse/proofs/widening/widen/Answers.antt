@@ -1,4 +1,4 @@
-use Rattle.std.proofs.Common.{◌≡◌, ◌+◌, ◌∙◌, ℕ, ap, ap₂, arith, length, nat_le, refl, subst, sym, ◌∷◌, []}
+use Rattle.std.proofs.Common.{◌≡◌, ◌+◌, ◌∙◌, ℕ, ap, ap₂, arith, length, nat_le, subst, sym, ◌∷◌, []}
 use Rattle.std.specs.FinMap as finmap
 use Rattle.std.specs.Ordering.{nat_cmp}
 use Rattle.std.specs.Prelude.{Ok}
@@ -14,14 +14,14 @@ use Rattle.tree_search.specs.Found.{IsTreeOf}
 use Rattle.value_dict.specs.TextLists as texts
 use Rattle.value_dict.specs.TextLists.{IsDictionary, TextLists}
 use Rattle.warehouse.specs.Batch.{Applied}
-use Rattle.warehouse.specs.Changing.{AreParts, contents_of}
+use Rattle.warehouse.specs.Changing.{AreParts}
 use Rattle.warehouse.specs.State.{State}
 use Rattle.warehouse.specs.Stored.{IsStored, state_of}
 use Rattle.warehouse.specs.Widening.{KeepsWidened, nodes_then, widened}
 use Rattle.warehouse.proofs.Counted.{classes-kept, nodes-kept}
 use Rattle.warehouse.specs.declared.cube.Cube.{Cube}
 use Rattle.warehouse.proofs.ListedClasses.{from_classes, lists_few}
-use Rattle.warehouse.proofs.Wider.{cost-wide, dims-free, kept-wide, refused-full, room-free, state-wide, stored-wide, taken-free}
+use Rattle.warehouse.proofs.Wider.{cost-wide, kept-wide, refused-full, room-free, state-wide, stored-wide, taken-free}
 use Rattle.warehouse.proofs.widening.widen.Goals as goal
 
 pub returns-in-Some-clause-gives : goal.returns-in-Some-clause-gives
@@ -71,10 +71,6 @@ widen_parts-requires-clause-can g c =
             (finmap.len tree.now + classes_in nat_cmp tree.now) (sym c.in_default.is ∙ c.widen_refusal.ensures),
       );
     }
-
-pub returns-in-Err-widen_parts-clause-same : goal.returns-in-Err-widen_parts-clause-same
-returns-in-Err-widen_parts-clause-same g c =
-    ap (λ (cube : Cube). contents_of c.args.schema.now cube c.args.index.now) c.in-Err-widen_parts.ensures.back
 
 pub returns-in-Err-widen_parts-clause-parts : goal.returns-in-Err-widen_parts-clause-parts
 returns-in-Err-widen_parts-clause-parts g c =
@@ -160,47 +156,3 @@ returns-clause-steps g c =
     c.class_numbers.new.steps c.widen_parts.new.steps
     (lists_few tree c.in-Ok.numbers.items (from_classes tree c.in-Ok.numbers.items c.in-Ok.ensures.numbers))
     c.class_numbers.ensures.steps c.in-Ok-widen_parts.ensures.steps
-
-pub returns-in-Some-clause-same : goal.returns-in-Some-clause-same
-returns-in-Some-clause-same g c = refl
-
-pub returns-in-Some-clause-parts : goal.returns-in-Some-clause-parts
-returns-in-Some-clause-parts g c = c.requires.parts
-
-pub returns-in-Some-clause-images : goal.returns-in-Some-clause-images
-returns-in-Some-clause-images g c = c.requires.images
-
-pub returns-in-Err-clause-same : goal.returns-in-Err-clause-same
-returns-in-Err-clause-same g c = refl
-
-pub returns-in-Err-clause-parts : goal.returns-in-Err-clause-parts
-returns-in-Err-clause-parts g c = c.requires.parts
-
-pub returns-in-Err-clause-images : goal.returns-in-Err-clause-images
-returns-in-Err-clause-images g c = c.requires.images
-
-pub with_dim-requires-clause-few : goal.with_dim-requires-clause-few
-with_dim-requires-clause-few g c = dims-free _ _ _ (sym c.in_default.is ∙ c.widen_refusal.ensures)
-
-pub with_dim-requires-clause-new : goal.with_dim-requires-clause-new
-with_dim-requires-clause-new g c = c.requires.name
-
-pub returns-in-Err-with_dim-clause-same : goal.returns-in-Err-with_dim-clause-same
-returns-in-Err-with_dim-clause-same g c = refl
-
-pub returns-in-Err-with_dim-clause-parts : goal.returns-in-Err-with_dim-clause-parts
-returns-in-Err-with_dim-clause-parts g c = c.requires.parts
-
-pub returns-in-Err-with_dim-clause-images : goal.returns-in-Err-with_dim-clause-images
-returns-in-Err-with_dim-clause-images g c = c.requires.images
-
-pub widen_parts-requires-clause-classes : goal.widen_parts-requires-clause-classes
-widen_parts-requires-clause-classes g c = c.in-Ok.ensures.numbers
-
-pub returns-in-Err-widen_parts-clause-images : goal.returns-in-Err-widen_parts-clause-images
-returns-in-Err-widen_parts-clause-images g c =
-    ap (λ (cube : Cube). cube.tree.last) c.in-Err-widen_parts.ensures.back ∙ c.requires.images
-
-pub returns-clause-images : goal.returns-clause-images
-returns-clause-images g c =
-    ap (λ (a : Arena). a.last) c.in-Ok-widen_parts.ensures.widened.of_tree ∙ c.requires.images

@@ -3,7 +3,7 @@ use Rattle.std.proofs.lemmas.Option.{slice_get-get_or}
 use Rattle.cell_core.specs.declared.cell.NodeNo.{NodeNo}
 use Rattle.cube_defs.specs.Cell.{depth}
 use Rattle.cube_defs.specs.Tree.{Tree}
-use Rattle.qc_arena.specs.Map.{Arena, is_open}
+use Rattle.qc_arena.specs.Map.{Arena}
 use Rattle.qc_arena.specs.RecordReaders.{record_at}
 use Rattle.warehouse.specs.ClassMoves.{HaveChildren}
 use Rattle.qc_arena.specs.Lowered.{HandsDown}
@@ -25,9 +25,6 @@ places-init g c = record {
   size = let few = no_more_wide c.args.tree.now.now c.widen.new.self.now c.widen.ensures.nodes in omega (arith, few);
   steps = omega arith;
 }
-
-pub hand_down-requires-clause-closed : goal.hand_down-requires-clause-closed
-hand_down-requires-clause-closed g c = ap is_open c.places.invariant.rest ∙ c.requires.closed
 
 pub hand_down-requires-clause-there : goal.hand_down-requires-clause-there
 hand_down-requires-clause-there g c =
@@ -54,10 +51,6 @@ hand_down-requires-clause-shallow g c =
     (item_at c.places.classes.items c.places.place c.index.result.now
     (omega (arith, inv.way.long, c.places-test.true, c.len-place-end.ensures)) c.index.ensures))
 
-pub hand_down-requires-clause-within : goal.hand_down-requires-clause-within
-hand_down-requires-clause-within g c
-    = omega (arith, c.dims-dim.ensures.value, ap (λ (a : Arena). a.width) c.places.invariant.rest)
-
 pub hand_down-requires-clause-few : goal.hand_down-requires-clause-few
 hand_down-requires-clause-few g c =
     let inv = c.places.invariant in
@@ -75,19 +68,6 @@ hand_down-requires-clause-few g c =
 -- a tree that a refusal left as it was
 unmoved : (a b : Arena) → b ≡ record a { now = b.now } → b.now ≡ a.now → b ≡ a
 unmoved a b rest same = rest ∙ ap (λ (t : Tree ℕ). let x : Arena = record a { now = t } in x) same
-
-pub narrow_tree-requires-clause-closed : goal.narrow_tree-requires-clause-closed
-narrow_tree-requires-clause-closed g c =
-    ap is_open c.hand_down.ensures.rest ∙ ap is_open c.places.invariant.rest ∙ c.requires.closed
-
-pub narrow_tree-requires-clause-some : goal.narrow_tree-requires-clause-some
-narrow_tree-requires-clause-some g c =
-    omega (
-      arith,
-      c.requires.some,
-      ap (λ (a : Arena). a.width) c.hand_down.ensures.rest,
-      ap (λ (a : Arena). a.width) c.places.invariant.rest,
-    )
 
 pub narrow_tree-requires-clause-moved : goal.narrow_tree-requires-clause-moved
 narrow_tree-requires-clause-moved g c =
@@ -146,22 +126,8 @@ returns-clause-classes g c =
     lists_children c.args.tree.now.width c.places.place c.args.tree.now.now c.places.tree.now c.args.classes.now.items
     c.places.classes.items c.places.invariant.way (omega (arith, c.places-test.false, c.len-place-end.ensures))
 
-pub returns-clause-moved : goal.returns-clause-moved
-returns-clause-moved g c =
-    let old = c.args.classes.now.items in
-    let all : c.places.place ≡ length old
-    = omega (arith, c.places-test.false, c.len-place-end.ensures, c.places.invariant.way.within) in
-    subst (λ n. HaveChildren c.args.tree.now.width n c.args.tree.now.now c.places.tree.now old c.places.classes.items) all
-    c.places.invariant.way
-
 pub returns-clause-few : goal.returns-clause-few
 returns-clause-few g c =
     let inv = c.places.invariant in
     let few = classes_few c.args.tree.now.now c.args.classes.now.items c.requires.classes in
     omega (arith, few, inv.size, inv.way.within, c.requires.room, ap (λ (a : Arena). a.max) inv.rest)
-
-pub returns-clause-rest : goal.returns-clause-rest
-returns-clause-rest g c = c.places.invariant.rest
-
-pub returns-clause-steps : goal.returns-clause-steps
-returns-clause-steps g c = omega (arith, c.places.invariant.steps, c.places.invariant.way.within)

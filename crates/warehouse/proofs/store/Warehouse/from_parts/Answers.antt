@@ -5,9 +5,6 @@ use Rattle.warehouse.proofs.Counted.{nodes-decoded}
 use Rattle.warehouse.proofs.Trees.{is-held}
 use Rattle.warehouse.proofs.store.Warehouse.from_parts.Goals as goal
 
-pub invariant_of-result : goal.invariant_of-result
-invariant_of-result g c = record { stored = c.requires; kept = c.in-Ok.ensures.tree; indexed = c.in-Ok.ensures.index }
-
 pub returns-in-Ok-clause-valid : goal.returns-in-Ok-clause-valid
 returns-in-Ok-clause-valid g c =
     is-held c.args.schema (record {

@@ -11,12 +11,6 @@ use Rattle.warehouse.proofs.store.Warehouse.make_changes.Goals as goal
 pub returns-clause-gives : goal.returns-clause-gives
 returns-clause-gives g c = rw (← c.self.view_is) c.make_changes.ensures.gives
 
-pub returns-clause-in_place : goal.returns-clause-in_place
-returns-clause-in_place g c = rw (← c.self.view_is) c.make_changes.ensures.in_place
-
-pub returns-clause-same : goal.returns-clause-same
-returns-clause-same g c = rw (← c.self.view_is) c.make_changes.ensures.same
-
 pub returns-clause-valid : goal.returns-clause-valid
 returns-clause-valid g c =
     is-held c.self.inside.schema c.make_changes.new.cube c.make_changes.new.index c.make_changes.ensures.parts
