@@ -90,30 +90,11 @@ eq-flip m n e = grind (arith, nat_tests)
 
 pub kind-flip : (a b : AggKind) → same_kind a b ≡ false → same_kind b a ≡ false
 kind-flip kinds.Count kinds.Count e = e
-kind-flip kinds.Count (kinds.Sum n) e = refl
-kind-flip kinds.Count (kinds.Least n) e = refl
-kind-flip kinds.Count (kinds.Greatest n) e = refl
-kind-flip kinds.Count (kinds.Mean n) e = refl
-kind-flip (kinds.Sum m) kinds.Count e = refl
 kind-flip (kinds.Sum m) (kinds.Sum n) e = eq-flip m n e
-kind-flip (kinds.Sum m) (kinds.Least n) e = refl
-kind-flip (kinds.Sum m) (kinds.Greatest n) e = refl
-kind-flip (kinds.Sum m) (kinds.Mean n) e = refl
-kind-flip (kinds.Least m) kinds.Count e = refl
-kind-flip (kinds.Least m) (kinds.Sum n) e = refl
 kind-flip (kinds.Least m) (kinds.Least n) e = eq-flip m n e
-kind-flip (kinds.Least m) (kinds.Greatest n) e = refl
-kind-flip (kinds.Least m) (kinds.Mean n) e = refl
-kind-flip (kinds.Greatest m) kinds.Count e = refl
-kind-flip (kinds.Greatest m) (kinds.Sum n) e = refl
-kind-flip (kinds.Greatest m) (kinds.Least n) e = refl
 kind-flip (kinds.Greatest m) (kinds.Greatest n) e = eq-flip m n e
-kind-flip (kinds.Greatest m) (kinds.Mean n) e = refl
-kind-flip (kinds.Mean m) kinds.Count e = refl
-kind-flip (kinds.Mean m) (kinds.Sum n) e = refl
-kind-flip (kinds.Mean m) (kinds.Least n) e = refl
-kind-flip (kinds.Mean m) (kinds.Greatest n) e = refl
 kind-flip (kinds.Mean m) (kinds.Mean n) e = eq-flip m n e
+kind-flip _ _ e = refl
 
 -- what the parts of a line are known to be
 in-order : (b : Bool) (x : Unit {0}) → in_order b ≡ Ok x → b ≡ true
@@ -282,85 +263,48 @@ layout-after stages.Qcube l may h = absurd (cc may)
 layout-after stages.Id l may h = absurd (cc may)
 layout-after stages.Dim l may h = h.0
 layout-after stages.Measure l may h = h.0
-layout-after stages.Index l may h = h
-layout-after stages.Nodes l may h = h
-layout-after stages.Rows l may h = h
-layout-after stages.Values l may h = h
+layout-after _ l may h = h
 
 from-index : (stage : LastLine) → may_index stage ≡ true → may_rows stage ≡ true
 from-index stages.Nodes may = refl
-from-index stages.Start may = absurd (cc may)
-from-index stages.Qcube may = absurd (cc may)
-from-index stages.Id may = absurd (cc may)
 from-index stages.Dim may = refl
 from-index stages.Measure may = refl
 from-index stages.Index may = refl
-from-index stages.Rows may = absurd (cc may)
-from-index stages.Values may = absurd (cc may)
+from-index _ may = absurd (cc may)
 
 from-rows : (stage : LastLine) → may_rows stage ≡ true → may_values stage ≡ true
-from-rows stages.Rows may = refl
-from-rows stages.Nodes may = refl
 from-rows stages.Start may = absurd (cc may)
 from-rows stages.Qcube may = absurd (cc may)
 from-rows stages.Id may = absurd (cc may)
-from-rows stages.Dim may = refl
-from-rows stages.Measure may = refl
-from-rows stages.Index may = refl
 from-rows stages.Values may = absurd (cc may)
+from-rows _ may = refl
 
 from-values : (stage : LastLine) → may_values stage ≡ true → may_end stage ≡ true
 from-values stages.Values may = refl
-from-values stages.Rows may = may
-from-values stages.Nodes may = may
-from-values stages.Start may = may
-from-values stages.Qcube may = may
-from-values stages.Id may = may
-from-values stages.Dim may = may
-from-values stages.Measure may = may
-from-values stages.Index may = may
+from-values _ may = may
 
 -- the lines
 keeps-id : (stage : LastLine) (l : Layout) (name : Text) → may_id stage ≡ true → AtStage stage l → is_name name ≡ true
     → AtStage stages.Id (record l { id = name })
-keeps-id stages.Start l name may h n = absurd (cc may)
 keeps-id stages.Qcube l name may h n = (n, ap (λ (x : Layout). record x { id = name }) h)
-keeps-id stages.Id l name may h n = absurd (cc may)
-keeps-id stages.Dim l name may h n = absurd (cc may)
-keeps-id stages.Measure l name may h n = absurd (cc may)
-keeps-id stages.Index l name may h n = absurd (cc may)
-keeps-id stages.Nodes l name may h n = absurd (cc may)
-keeps-id stages.Rows l name may h n = absurd (cc may)
-keeps-id stages.Values l name may h n = absurd (cc may)
+keeps-id _ l name may h n = absurd (cc may)
 
 keeps-dim : (stage : LastLine) (l : Layout) (name : Text) → may_dim stage ≡ true → AtStage stage l
     → length l.dims < max_dims l.version → is_name name ≡ true → is_used l name ≡ false
     → AtStage stages.Dim (record l { dims = l.dims ++ name ∷ [] })
-keeps-dim stages.Start l name may h few n u = absurd (cc may)
-keeps-dim stages.Qcube l name may h few n u = absurd (cc may)
 keeps-dim stages.Id l name may h few n u =
     let P : Layout → Type 0 = λ x. is_used x name ≡ false
     → AtStage stages.Dim (record x { dims = x.dims ++ name ∷ [] }) in
     subst P (sym h.1) (λ v. (first-dim l.version l.id name h.0 n v, refl, refl)) u
 keeps-dim stages.Dim l name may h few n u = (next-dim l name h.0 few n u, h.1, h.2)
-keeps-dim stages.Measure l name may h few n u = absurd (cc may)
-keeps-dim stages.Index l name may h few n u = absurd (cc may)
-keeps-dim stages.Nodes l name may h few n u = absurd (cc may)
-keeps-dim stages.Rows l name may h few n u = absurd (cc may)
-keeps-dim stages.Values l name may h few n u = absurd (cc may)
+keeps-dim _ l name may h few n u = absurd (cc may)
 
 keeps-measure : (stage : LastLine) (l : Layout) (m : Measure) → may_measure stage ≡ true → AtStage stage l
     → length l.measures < max_measures l.version → m.scale ≤ MAX_SCALE → is_name m.name ≡ true
     → is_used l m.name ≡ false → AtStage stages.Measure (record l { measures = l.measures ++ m ∷ [] })
-keeps-measure stages.Start l m may h few small n u = absurd (cc may)
-keeps-measure stages.Qcube l m may h few small n u = absurd (cc may)
-keeps-measure stages.Id l m may h few small n u = absurd (cc may)
 keeps-measure stages.Dim l m may h few small n u = (next-measure l m h.0 h.2 few small n u, h.2)
 keeps-measure stages.Measure l m may h few small n u = (next-measure l m h.0 h.1 few small n u, h.1)
-keeps-measure stages.Index l m may h few small n u = absurd (cc may)
-keeps-measure stages.Nodes l m may h few small n u = absurd (cc may)
-keeps-measure stages.Rows l m may h few small n u = absurd (cc may)
-keeps-measure stages.Values l m may h few small n u = absurd (cc may)
+keeps-measure _ l m may h few small n u = absurd (cc may)
 
 as-state : (s t : Progress) → s ≡ t → AtStage s.stage s.layout → Keeps t
 as-state s t same h = subst Keeps same (record { holds = h })
@@ -494,14 +438,7 @@ named-kept s t word words k e =
 
 at-start : (stage : LastLine) (l : Layout) → is_start stage ≡ true → AtStage stage l → l ≡ start.layout
 at-start stages.Start l is h = h
-at-start stages.Qcube l is h = absurd (cc is)
-at-start stages.Id l is h = absurd (cc is)
-at-start stages.Dim l is h = absurd (cc is)
-at-start stages.Measure l is h = absurd (cc is)
-at-start stages.Index l is h = absurd (cc is)
-at-start stages.Nodes l is h = absurd (cc is)
-at-start stages.Rows l is h = absurd (cc is)
-at-start stages.Values l is h = absurd (cc is)
+at-start _ l is h = absurd (cc is)
 
 version-kept : (s t : Progress) (word : Text) (words : List Text) → is_start s.stage ≡ true → Keeps s
     → version_line s word words ≡ Ok t → Keeps t
@@ -560,10 +497,7 @@ few-at stages.Qcube l h = omega (arith, ap (λ (x : Layout). length x.measures) 
 few-at stages.Id l h = omega (arith, ap (λ (x : Layout). length x.measures) h.1)
 few-at stages.Dim l h = measures-few l h.0
 few-at stages.Measure l h = measures-few l h.0
-few-at stages.Index l h = measures-few l h
-few-at stages.Nodes l h = measures-few l h
-few-at stages.Rows l h = measures-few l h
-few-at stages.Values l h = measures-few l h
+few-at _ l h = measures-few l h
 
 pub few-kept : (s : Progress) → Keeps s → length s.layout.measures ≤ 4
 few-kept s k = few-at s.stage s.layout k.holds
