@@ -64,11 +64,8 @@ fault-answered (Some t) s line number (Some f) words reply texts read is = rw (r
 
 -- a line that isn't read, and has no fault, lacks memory
 pub memory-alone : (e : LineRefused) → None ≡ option_map line_texts (line_fault_in e) → e ≡ refusals.Memory
-memory-alone refusals.Utf8 texts = absurd (cc)
-memory-alone refusals.Command texts = absurd (cc)
-memory-alone (refusals.Field k) texts = absurd (cc)
-memory-alone refusals.Number texts = absurd (cc)
 memory-alone refusals.Memory texts = refl
+memory-alone _ texts = absurd (cc)
 
 -- a line that asks a question is answered as the question is
 pub line-answered : {E : Type 0} (r : Result Reply E) (told : Option FileContents) (s : PinnedState) (line : List ℕ)

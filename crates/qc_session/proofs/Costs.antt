@@ -44,9 +44,8 @@ no-steps n = omega arith
 
 within-both : (first second : Option ℕ) (from mid to : ℕ) → IsWithin first from mid → IsWithin second mid to
     → IsWithin (both_costs first second) from to
-within-both None second from mid to h more = tt
-within-both (Some first) None from mid to h more = tt
 within-both (Some first) (Some second) from mid to h more = omega (arith, h, more)
+within-both _ second from mid to h more = tt
 
 -- a query that no index answers
 pub bare-within : (s : State) (has_index : AggKind → Bool) → ((kind : AggKind) → has_index kind ≡ false)

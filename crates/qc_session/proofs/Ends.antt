@@ -10,9 +10,9 @@ use Rattle.qc_session.specs.Ends.{TookNothing, files_over, sink_over}
 use Rattle.qc_session.specs.Forms.{FileNames}
 use Rattle.qc_session.specs.Lines.{lines_of, script_lines, without_cr}
 use Rattle.qc_session.specs.Reading.{FilesStay}
-use Rattle.qc_session.specs.Runs.{AreSkipped, BrokenOff, CannotRead, CannotWrite, Cause, IsScriptOf, IsStartOf, LongSnapshot, NoSchema}
-use Rattle.qc_session.specs.Runs.{NoSnapshot, NotBegun, OutOfMemory, StoppedAt, StoppedWriting, TooLong, Usage, WroteAll, state_in}
-use Rattle.qc_session.specs.Runs.{status_of}
+use Rattle.qc_session.specs.Runs.{AreSkipped, BrokenOff, CannotRead, CannotWrite, Cause, IsScriptOf, IsStartOf}
+use Rattle.qc_session.specs.Runs.{NotBegun, OutOfMemory, StoppedAt, StoppedWriting, WroteAll, state_in}
+use Rattle.qc_session.specs.Runs.{Usage, status_of}
 use Rattle.qc_session.specs.Session.{IfStop}
 use Rattle.qc_session.specs.declared.scripts.Outcome.{Outcome}
 use Rattle.qc_session.specs.declared.session.Stop.{Stop}
@@ -82,26 +82,14 @@ hands-end o held is end are = record { held = rw end are; there = λ _. rw end r
 
 fails : (cause : Cause) → 0 < status_of cause
 fails Usage = lit< tt
-fails (CannotRead name) = lit< tt
-fails CannotWrite = lit< tt
-fails OutOfMemory = lit< tt
-fails (NoSchema fault) = lit< tt
-fails NoSnapshot = lit< tt
-fails LongSnapshot = lit< tt
-fails (TooLong name) = lit< tt
+fails _ = lit< tt
 
 pub hands-failed : (o : Outcome) (cause : Cause) → o.status ≡ status_of cause → o.end ≡ None → ReturnsWarehouse o
 hands-failed o cause is none = hands-none o (λ e. absurd (omega (arith, fails cause, is, e))) none
 
 pub memory-only : (cause : Cause) → status_of cause ≡ 5 → cause ≡ OutOfMemory
-memory-only Usage e = absurd (omega (arith, e))
-memory-only (CannotRead name) e = absurd (omega (arith, e))
-memory-only CannotWrite e = absurd (omega (arith, e))
 memory-only OutOfMemory e = refl
-memory-only (NoSchema fault) e = absurd (omega (arith, e))
-memory-only NoSnapshot e = absurd (omega (arith, e))
-memory-only LongSnapshot e = absurd (omega (arith, e))
-memory-only (TooLong name) e = absurd (omega (arith, e))
+memory-only _ e = absurd (omega (arith, e))
 
 -- the lines of a script, by their other names
 skips-same : (lines lines2 : List (List ℕ)) (ks ks2 : List ℕ) → lines2 ≡ lines → ks2 ≡ ks → AreSkipped lines2 ks

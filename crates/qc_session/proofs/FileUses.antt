@@ -6,34 +6,19 @@ use Rattle.warehouse.specs.Batch as batches
 use Rattle.qc_session.specs.declared.answer.FileUse.TheVariants as kinds
 
 pub load-no-try : {P : Type 0} → kinds.Load ≡ kinds.Try → P
-load-no-try is = absurd (by is)
-  where
-    by : kinds.Load ≡ kinds.Try → ⊥
-    by is = cc
+load-no-try is = absurd cc
 
 pub apply-no-try : {P : Type 0} → kinds.Apply ≡ kinds.Try → P
-apply-no-try is = absurd (by is)
-  where
-    by : kinds.Apply ≡ kinds.Try → ⊥
-    by is = cc
+apply-no-try is = absurd cc
 
 pub load-no-apply : {P : Type 0} → kinds.Load ≡ kinds.Apply → P
-load-no-apply is = absurd (by is)
-  where
-    by : kinds.Load ≡ kinds.Apply → ⊥
-    by is = cc
+load-no-apply is = absurd cc
 
 pub try-no-apply : {P : Type 0} → kinds.Try ≡ kinds.Apply → P
-try-no-apply is = absurd (by is)
-  where
-    by : kinds.Try ≡ kinds.Apply → ⊥
-    by is = cc
+try-no-apply is = absurd cc
 
 pub loaded-no-applied : {P : Type 0} → batches.Load ≡ batches.Apply → P
-loaded-no-applied is = absurd (by is)
-  where
-    by : batches.Load ≡ batches.Apply → ⊥
-    by is = cc
+loaded-no-applied is = absurd cc
 
 -- versions that stay show the same
 pub shows-itself : {T E : Type 0} (r : Result T E) (old new : Versions) → new ≡ old → OnErr r (ShowsSame old new)

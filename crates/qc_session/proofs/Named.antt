@@ -67,8 +67,7 @@ file-answered (Some t) name opened bytes taken old new kind number reply same re
 -- a file that is too long is refused, and nothing changes
 stays : (kind : FileUse) (s : State) → state_by_use kind s s ≡ s
 stays kinds.Load s = refl
-stays kinds.Apply s = refl
-stays kinds.Try s = refl
+stays _ s = refl
 
 longer : (bytes : List ℕ) → MAX_FILE < length bytes → nat_lt MAX_FILE (length bytes) ≡ true
 longer bytes more = grind (arith, nat_tests, more)

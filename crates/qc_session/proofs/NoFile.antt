@@ -13,8 +13,4 @@ pub names-none : (command : Command) → ((name : Text) → command ≡ commands
 names-none (commands.Load name) load apply tried = absurd (load name refl)
 names-none (commands.Apply name) load apply tried = absurd (apply name refl)
 names-none (commands.Try name) load apply tried = absurd (tried name refl)
-names-none (commands.Widen name value) load apply tried = refl
-names-none (commands.Pin name) load apply tried = refl
-names-none (commands.Unpin name) load apply tried = refl
-names-none (commands.At name query) load apply tried = refl
-names-none (commands.Ask query) load apply tried = refl
+names-none _ load apply tried = refl

@@ -25,9 +25,8 @@ or-second None b r other e = e
 or-second (Some a) b r other e = absurd (other e)
 
 length-learnt : (lists : List (List Text)) (tuple : List Text) → length (with_tuple lists tuple) ≡ length lists
-length-learnt [] tuple = refl
-length-learnt (texts ∷ lists) [] = refl
 length-learnt (texts ∷ lists) (text ∷ tuple) = ap suc (length-learnt lists tuple)
+length-learnt _ tuple = refl
 
 length-after : (lists : List (List Text)) (rows : List (Row Text)) → length (fold with_row lists rows) ≡ length lists
 length-after lists [] = refl
@@ -117,18 +116,5 @@ result-within s batches.Apply bytes dim is e = of-within s (batch_in s.schema by
 
 pub dim-within : (s : State) (kind : FileUse) (bytes : List ℕ) (e : Refused) → IsState s
     → IfSome (refusal_in e) (λ r. result s kind bytes ≡ Err r) → IsDimension e (length s.schema.dims)
-dim-within s kind bytes files.NotEmpty is h = tt
-dim-within s kind bytes files.Header is h = tt
-dim-within s kind bytes (files.Fields k) is h = tt
-dim-within s kind bytes (files.Utf8 k) is h = tt
-dim-within s kind bytes (files.Op k) is h = tt
-dim-within s kind bytes (files.Id k) is h = tt
-dim-within s kind bytes (files.Amount k) is h = tt
-dim-within s kind bytes (files.Value k) is h = tt
-dim-within s kind bytes (files.Twice k) is h = tt
-dim-within s kind bytes (files.Missing k) is h = tt
-dim-within s kind bytes (files.Present k) is h = tt
-dim-within s kind bytes files.RowsFull is h = tt
 dim-within s kind bytes (files.ValuesFull dim) is h = result-within s kind bytes dim is h
-dim-within s kind bytes files.NodesFull is h = tt
-dim-within s kind bytes files.Memory is h = tt
+dim-within s kind bytes _ is h = tt

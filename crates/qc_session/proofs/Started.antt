@@ -5,8 +5,8 @@ use Rattle.cube_defs.specs.declared.limits.TheConstants.{MAX_FILE}
 use Rattle.qc_io.specs.Outside.{FileContents}
 use Rattle.warehouse.specs.State.{State}
 use Rattle.qc_session.specs.Forms.{FileNames, FromSchema, FromSnapshot, Source}
-use Rattle.qc_session.specs.Runs.{Begins, BeginsNot, CannotRead, CannotWrite, Cause, HasNoStart, IsNever, IsScriptOf, IsStartOf}
-use Rattle.qc_session.specs.Runs.{LongSnapshot, NoSchema, NoSnapshot, OutOfMemory, ReadFails, TooLong, Usage}
+use Rattle.qc_session.specs.Runs.{Begins, BeginsNot, Cause, HasNoStart, IsNever, IsScriptOf, IsStartOf}
+use Rattle.qc_session.specs.Runs.{NoSchema, NoSnapshot, OutOfMemory, ReadFails}
 
 -- a file that is read
 pub script-read : (told : Option FileContents) (name bytes : List ℕ) → IfSome told (λ t. t name ≡ Some bytes)
@@ -60,11 +60,6 @@ never (Some t) names cause h = absurd h
 -- it isn't read
 pub first-fails : (told : Option FileContents) (names : FileNames) (rose sure : Type 0) (cause : Cause)
     → ReadFails told names.first rose sure IsNever cause → ReadFails told names.first rose sure (HasNoStart names) cause
-first-fails told names rose sure Usage h = h
-first-fails told names rose sure (CannotRead file) h = h
-first-fails told names rose sure CannotWrite h = h
-first-fails told names rose sure OutOfMemory h = h
 first-fails told names rose sure (NoSchema fault) h = never told names (NoSchema fault) h
 first-fails told names rose sure NoSnapshot h = never told names NoSnapshot h
-first-fails told names rose sure LongSnapshot h = h
-first-fails told names rose sure (TooLong file) h = h
+first-fails told names rose sure _ h = h

@@ -310,9 +310,8 @@ line_at-prefix lines more (suc k) le = by lines k (omega arith)
 line_at-end : (lines : List (List ℕ)) (line : List ℕ) (k : ℕ) → k ≡ length lines
     → line_at (lines ++ line ∷ []) (suc k) ≡ line
 line_at-end [] line zero e = refl
-line_at-end [] line (suc k) e = absurd (omega arith)
-line_at-end (l ∷ ls) line zero e = absurd (omega arith)
 line_at-end (l ∷ ls) line (suc k) e = line_at-end ls line k (omega arith)
+line_at-end _ line _ e = absurd (omega arith)
 
 -- numbers of lines that may be skipped stay such where lines come after
 commands-prefix : (lines more : List (List ℕ)) (ks : List ℕ) → AreUpTo (length lines) ks

@@ -22,13 +22,11 @@ line-skips (Err (stops.Fault name)) Wanted Wanted2 F named named2 wider same mem
 -- of a line that names a file
 pub memory-wanted : {T : Type 0} (r : Result T LineStop) (Wanted : Type 0) → Wanted
     → IfErr r (λ stop. MatchLineStop stop Wanted (λ file. ⊤))
-memory-wanted (Ok x) Wanted wanted = tt
 memory-wanted (Err stops.Memory) Wanted wanted = wanted
-memory-wanted (Err (stops.Fault name)) Wanted wanted = tt
+memory-wanted _ Wanted wanted = tt
 
 pub fault-named : {T : Type 0} (r : Result T LineStop) (name : Text) (F : Type 0)
     → IfErr r (λ stop. MatchLineStop stop ⊤ (λ file. (file ≡ name) × F))
     → IfErr r (λ stop. MatchLineStop stop ⊤ (λ file. (Some name ≡ Some file) × F))
-fault-named (Ok x) name F h = tt
-fault-named (Err stops.Memory) name F h = tt
 fault-named (Err (stops.Fault file)) name F h = (ap (λ (text : Text). Some text) (sym h.0), h.1)
+fault-named _ name F h = tt

@@ -4,14 +4,9 @@ use Rattle.qc_io.specs.Outside.{Rose}
 use Rattle.warehouse.specs.Batch as batches
 use Rattle.qc_session.proofs.Answered.{for_told}
 use Rattle.qc_session.proofs.Costs.{file-within}
-use Rattle.qc_session.proofs.NoFile.{names-none}
 use Rattle.qc_session.proofs.Stopped.{fault-named, memory-wanted}
 use Rattle.qc_session.proofs.Taken.{stay-same}
 use Rattle.qc_session.proofs.answer.answer_command.Goals as goal
-
-pub answer_without_file-reply-requires-clause-unnamed : goal.answer_without_file-reply-requires-clause-unnamed
-answer_without_file-reply-requires-clause-unnamed g c
-    = names-none c.args.command c.in_default.not-Load c.in_default.not-Apply c.in_default.not-Try
 
 pub returns-in-Ok : goal.returns-in-Ok
 returns-in-Ok g c =

@@ -9,9 +9,6 @@ returns-then-is_empty g c
           (rw c.take_lines.new.session.skipped.ok.0 at (sym c.is_empty.ensures ∙ c.if-is_empty.true)) c.in-Ok.ensures.ends.by;
     }
 
-pub returns-else-is_empty : goal.returns-else-is_empty
-returns-else-is_empty g c = record { by = tt }
-
 pub returns-then-is_empty-2 : goal.returns-then-is_empty-2
 returns-then-is_empty-2 g c =
     let h = rw c.in-Err-Read.field-0-is at c.in-Err-Read.ensures.ends.by in
@@ -22,6 +19,3 @@ returns-then-is_empty-2 g c =
             (rw c.take_lines.new.session.skipped.ok.0 at (sym c.is_empty-in-Err-Read.ensures ∙ c.if-is_empty-2.true)) h.1,
       );
     }
-
-pub returns-else-is_empty-2 : goal.returns-else-is_empty-2
-returns-else-is_empty-2 g c = record { by = tt }

@@ -24,25 +24,3 @@ returns-in-Err-Failed g c =
       open_file = e.open_file;
       err = (refl, e.failed failed, unread-name (g.F.Files.told c.args.files.now) _ _ _ failed e.sure);
     }
-
-pub returns-in-Err-TooLong : goal.returns-in-Err-TooLong
-returns-in-Err-TooLong g c =
-    let e = c.in-Err-TooLong.ensures in
-    record {
-      stay = record { later = e.later; told = e.told; steady = e.steady };
-      ok = tt;
-      short = tt;
-      open_file = e.open_file;
-      err = (refl, e.too_long (ap Err c.in-Err-TooLong.field-0-is));
-    }
-
-pub returns-in-Err-Memory : goal.returns-in-Err-Memory
-returns-in-Err-Memory g c =
-    let e = c.in-Err-Memory.ensures in
-    record {
-      stay = record { later = e.later; told = e.told; steady = e.steady };
-      ok = tt;
-      short = tt;
-      open_file = e.open_file;
-      err = tt;
-    }

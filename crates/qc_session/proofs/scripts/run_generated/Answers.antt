@@ -1,11 +1,7 @@
 use Rattle.std.proofs.Common.{◌∙◌, List, Some, ap, refl, take, ℕ}
 use Rattle.qc_io.specs.Outside.{with_taken}
-use Rattle.qc_session.proofs.Ends.{by-end, by-memory, by-write}
+use Rattle.qc_session.proofs.Ends.{by-end, by-write}
 use Rattle.qc_session.proofs.scripts.run_generated.Goals as goal
-
-pub returns-in_default-clause-ends : goal.returns-in_default-clause-ends
-returns-in_default-clause-ends g c
-    = record { skipped = c.fail.ensures.skipped; by = by-memory c.fail.ensures.status (refl, c.fail.ensures.said) }
 
 pub returns-in-Ok-write_all-clause-ends : goal.returns-in-Ok-write_all-clause-ends
 returns-in-Ok-write_all-clause-ends g c = record {

@@ -67,6 +67,3 @@ returns-in-Err g c =
           (prefix-then _ _ _ _ _ c.in-Ok.ensures.ok c.in-Err.ensures.err);
       steps = tt;
     }
-
-pub skip_line-requires : goal.skip_line-requires
-skip_line-requires g c = record { room = c.requires.next.next.room; number = c.requires.next.next.number }

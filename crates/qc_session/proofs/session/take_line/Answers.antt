@@ -53,9 +53,6 @@ returns-in-Some-Err g c =
           skip.skipped);
     }
 
-pub carry_out-requires-clause-taken : goal.carry_out-requires-clause-taken
-carry_out-requires-clause-taken g c = sym c.is_ignored.ensures ∙ c.if-is_ignored.false
-
 pub returns-in-None : goal.returns-in-None
 returns-in-None g c =
     let e = c.carry_out.ensures in
@@ -75,6 +72,3 @@ carry_out-requires-clause-next g c
       short
           = c.requires.short;
     }
-
-pub skip_line-requires : goal.skip_line-requires
-skip_line-requires g c = record { room = c.requires.next.room; number = c.requires.next.number }

@@ -28,17 +28,6 @@ lines-init g c = record {
   );
 }
 
-pub take_line-requires : goal.take_line-requires
-take_line-requires g c =
-    let inv = c.lines.invariant in
-    let split : length (lines_of c.lines.rest.now) ≡ length (lines_of c.split_line.result.1.now) + 1
-    = rw c.split_line.ensures.lines (omega arith) in
-    record {
-      next = record { room = omega (arith, inv.room, split); number = omega (arith, inv.few, split) };
-      up_to = inv.up_to;
-      short = omega (arith, inv.short, c.split_line.ensures.within, c.trim_cr.ensures.within);
-    }
-
 pub lines-preserved : goal.lines-preserved
 lines-preserved g c =
     let inv = c.lines.invariant in
