@@ -41,8 +41,9 @@ pub(crate) fn reserve_one(kept: &mut Vec<Images>, pins: &Vec<Pin>) -> Result<(),
 }
 
 // Whether the images after a place may be merged into those at it. They may if no version reads
-// from between them, and if those at it aren't much larger. So each number is moved a few times,
-// and the lists stay few.
+// from between them, and if those at it aren't much larger. If a version reads from after both, no
+// list will come between, so one merge serves all later reads. Then those at it may be larger. So
+// each number is moved a few times, and the lists stay few.
 fn may_merge(kept: &Vec<Images>, pins: &Vec<Pin>, at: usize) -> bool
     requires { suc at < length kept.now.items }
     ensures apart { result ≡ true → reads_from pins.now.items (suc at) ≡ false }
@@ -51,9 +52,9 @@ fn may_merge(kept: &Vec<Images>, pins: &Vec<Pin>, at: usize) -> bool
     if is_read_from(pins, at + 1) {
         return false;
     }
-    let older = &kept[at];
-    let later = &kept[at + 1];
-    older.count() / 2 <= later.count()
+    let older = kept[at].count();
+    let later = kept[at + 1].count();
+    older / 2 <= later || (older / 8 <= later && is_read_from(pins, at + 2))
 }
 
 // Merges the images after a place into those at it. If memory runs out, nothing changes.
