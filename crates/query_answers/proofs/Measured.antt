@@ -15,10 +15,7 @@ use Rattle.query_answers.specs.Queries.{scale_of}
 
 pub measure-there : (measures : ℕ) (kind : AggKind) → IsMeasured measures (kind_in kind) → IsThere measures kind
 measure-there measures kinds.Count h = tt
-measure-there measures (kinds.Sum m) h = h
-measure-there measures (kinds.Least m) h = h
-measure-there measures (kinds.Greatest m) h = h
-measure-there measures (kinds.Mean m) h = h
+measure-there measures _ h = h
 
 -- the scale that an index keeps
 pub scale-is : (schema : Layout) (kind : AggKind) → scale_in schema kind ≡ scale_of schema.measures (kind_in kind)

@@ -11,28 +11,18 @@ use Rattle.warehouse.specs.State.{State}
 
 pub named-in : (kind : AggKind) → named_kind (kind_in kind) ≡ kind
 named-in kinds.Count = refl
-named-in (kinds.Sum m) = refl
-named-in (kinds.Least m) = refl
-named-in (kinds.Greatest m) = refl
-named-in (kinds.Mean m) = refl
+named-in _ = refl
 
 -- a walk is counted wherever no index is named
 fewer : (kept named : Bool) → (named ≡ true → kept ≡ true) → (told walk before after : ℕ)
     → after ≤ before + (told + (if kept then 0 else walk)) → after ≤ before + (told + (if named then 0 else walk))
-fewer true true more told walk before after w = w
 fewer true false more told walk before after w = omega (arith, w)
 fewer false true more told walk before after w = absurd (true≢false (sym (more refl)))
-fewer false false more told walk before after w = w
+fewer _ _ more told walk before after w = w
 
 pub within-named : (s : State) (kept named : AggKind → Bool) → ((kind : AggKind) → named kind ≡ true → kept kind ≡ true)
     → (query : Query) (before after : ℕ) → after ≤ before + query_cost s kept query
     → after ≤ before + query_cost s named query
-within-named s kept named more (asks.Point asked) before after w = w
-within-named s kept named more (asks.Range asked) before after w = w
-within-named s kept named more (asks.Bounds asked) before after w = w
 within-named s kept named more (asks.Iceberg kind bound value) before after w
     = fewer (kept (named_kind kind)) (named (named_kind kind)) (more (named_kind kind)) _ (steps_of_walk s) before after w
-within-named s kept named more asks.Stats before after w = w
-within-named s kept named more (asks.Parents asked) before after w = w
-within-named s kept named more (asks.Children asked) before after w = w
-within-named s kept named more (asks.Rollup kind bound value asked) before after w = w
+within-named s kept named more _ before after w = w

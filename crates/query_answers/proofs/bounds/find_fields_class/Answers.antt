@@ -11,31 +11,28 @@ returns-in_default-clause-value g c = λ rows has.
     state-none (with_rows c.args.source.now.warehouse.now.state rows) has.state c.dict.result.now.lists
     c.args.asked.now c.dict.ensures.texts c.requires.dims c.requires.point (sym c.in_default.is ∙ c.cell_of.ensures)
 
-pub find_class-requires-clause-dims : goal.find_class-requires-clause-dims
-find_class-requires-clause-dims g c =
-    length-found c.dict.result.now.lists c.args.asked.now c.in-Some.cell (sym c.cell_of.ensures ∙ c.in-Some.is)
-    ∙ c.requires.dims ∙ sym c.requires.source.rows.wide
+pub find_class-requires : goal.find_class-requires
+find_class-requires g c = record {
+  dims = length-found c.dict.result.now.lists c.args.asked.now c.in-Some.cell (sym c.cell_of.ensures ∙ c.in-Some.is)
+      ∙ c.requires.dims ∙ sym c.requires.source.rows.wide;
+  tree = some-tree _ _ _ c.requires.source.rows;
+}
 
-pub find_class-requires-clause-tree : goal.find_class-requires-clause-tree
-find_class-requires-clause-tree g c = some-tree _ _ _ c.requires.source.rows
-
-pub returns-clause-value : goal.returns-clause-value
-returns-clause-value g c = λ rows has.
-    let s = with_rows c.args.source.now.warehouse.now.state rows in
-    let by = state-found s has.state c.dict.result.now.lists c.args.asked.now c.in-Some.cell in
-    IfOk-weaker c.find_class.result _ _
-    (λ found e. (by found c.dict.ensures.texts c.requires.point (sym c.in-Some.is ∙ c.cell_of.ensures) e).value)
-    (c.find_class.ensures.class (source_of s) (tree-of _ _ _ c.requires.source.rows rows has))
-
-pub returns-clause-told : goal.returns-clause-told
-returns-clause-told g c =
-    let rows = c.requires.source.rows.rows in
-    let has = c.requires.source.rows.kept in
-    let s = with_rows c.args.source.now.warehouse.now.state rows in
-    let by = state-found s has.state c.dict.result.now.lists c.args.asked.now c.in-Some.cell in
-    IfOk-weaker c.find_class.result _ _
-    (λ found e. (by found c.dict.ensures.texts c.requires.point (sym c.in-Some.is ∙ c.cell_of.ensures) e).told)
-    (c.find_class.ensures.class (source_of s) (tree-of _ _ _ c.requires.source.rows rows has))
-
-pub returns-clause-steps : goal.returns-clause-steps
-returns-clause-steps g c = rw c.requires.source.rows.wide at c.find_class.ensures.steps
+pub returns : goal.returns
+returns g c = record {
+  value = λ rows has.
+      let s = with_rows c.args.source.now.warehouse.now.state rows in
+      let by = state-found s has.state c.dict.result.now.lists c.args.asked.now c.in-Some.cell in
+      IfOk-weaker c.find_class.result _ _
+      (λ found e. (by found c.dict.ensures.texts c.requires.point (sym c.in-Some.is ∙ c.cell_of.ensures) e).value)
+      (c.find_class.ensures.class (source_of s) (tree-of _ _ _ c.requires.source.rows rows has));
+  told =
+      let rows = c.requires.source.rows.rows in
+      let has = c.requires.source.rows.kept in
+      let s = with_rows c.args.source.now.warehouse.now.state rows in
+      let by = state-found s has.state c.dict.result.now.lists c.args.asked.now c.in-Some.cell in
+      IfOk-weaker c.find_class.result _ _
+      (λ found e. (by found c.dict.ensures.texts c.requires.point (sym c.in-Some.is ∙ c.cell_of.ensures) e).told)
+      (c.find_class.ensures.class (source_of s) (tree-of _ _ _ c.requires.source.rows rows has));
+  steps = rw c.requires.source.rows.wide at c.find_class.ensures.steps;
+}

@@ -1,4 +1,4 @@
-use Rattle.std.proofs.Common.{◌≡◌, ◌∙◌, ℕ, ap, ap₂, sym, subst, length}
+use Rattle.std.proofs.Common.{◌≡◌, ◌∙◌, ℕ, ap, ap₂, sym, subst, length, rules}
 use Rattle.std.specs.Prelude.{IfSome}
 use Rattle.std.specs.List.{All}
 use Rattle.std.proofs.lemmas.Result.{IfOk-weaker}
@@ -24,67 +24,60 @@ scale_of_kind-requires-clause-layout g c = rw c.schema.ensures.value c.schema.en
 pub scale_of_kind-requires-clause-measured : goal.scale_of_kind-requires-clause-measured
 scale_of_kind-requires-clause-measured g c = rw c.schema.ensures.value c.requires.measured
 
-pub iceberg-requires-clause-tree : goal.iceberg-requires-clause-tree
-iceberg-requires-clause-tree g c = some-tree _ _ _ c.requires.source.rows
+pub iceberg-requires : goal.iceberg-requires
+iceberg-requires g c = record {
+  tree = some-tree _ _ _ c.requires.source.rows;
+  unit =
+      let kind = c.args.condition.kind in
+      let scale = scale-is c.args.source.now.warehouse.now.state.schema kind
+      ∙ sym (c.scale_of_kind.ensures.value
+      ∙ ap (λ (l : Layout). scale_of l.measures (kind_in kind)) c.schema.ensures.value) in
+      subst (λ (n : ℕ). IfSome (ranking_of kind c.args.source.now.index.now) (λ r. r.scale ≡ n)) scale
+      (c.requires.source.unit kind);
+  dims = ap length c.dict.ensures.texts ∙ c.dict.ensures.valid.state.consistent.lists
+      ∙ sym c.requires.source.rows.wide;
+  measure =
+      let s = with_rows c.args.source.now.warehouse.now.state c.requires.source.rows.rows in (
+        source_of s,
+        tree-of _ _ _ c.requires.source.rows s.rows c.requires.source.rows.kept,
+        measure-there (length s.schema.measures) c.args.condition.kind c.requires.measured,
+      );
+  index = search rules;
+}
 
-pub iceberg-requires-clause-unit : goal.iceberg-requires-clause-unit
-iceberg-requires-clause-unit g c =
-    let kind = c.args.condition.kind in
-    let scale = scale-is c.args.source.now.warehouse.now.state.schema kind
-    ∙ sym (c.scale_of_kind.ensures.value
-    ∙ ap (λ (l : Layout). scale_of l.measures (kind_in kind)) c.schema.ensures.value) in
-    subst (λ (n : ℕ). IfSome (ranking_of kind c.args.source.now.index.now) (λ r. r.scale ≡ n)) scale
-    (c.requires.source.unit kind)
-
-pub iceberg-requires-clause-dims : goal.iceberg-requires-clause-dims
-iceberg-requires-clause-dims g c = ap length c.dict.ensures.texts ∙ c.dict.ensures.valid.state.consistent.lists
-    ∙ sym c.requires.source.rows.wide
-
-pub iceberg-requires-clause-measure : goal.iceberg-requires-clause-measure
-iceberg-requires-clause-measure g c =
-    let s = with_rows c.args.source.now.warehouse.now.state c.requires.source.rows.rows in (
-      source_of s,
-      tree-of _ _ _ c.requires.source.rows s.rows c.requires.source.rows.kept,
-      measure-there (length s.schema.measures) c.args.condition.kind c.requires.measured,
-    )
-
-pub returns-clause-classes : goal.returns-clause-classes
-returns-clause-classes g c = λ rows has.
-    let s = with_rows c.args.source.now.warehouse.now.state rows in
-    let scale = c.scale_of_kind.ensures.value
-    ∙ ap (λ (l : Layout). scale_of l.measures (kind_in c.args.condition.kind)) c.schema.ensures.value in
-    let ask = ap (λ (n : ℕ). let a : answers.Ask
-    = record {
-      kind = kind_in c.args.condition.kind;
-      scale = n;
-      bound = bound_in c.args.condition.bound;
-      value
-          = fraction_in c.args.condition.value;
-    } in a) scale in
-    IfOk-weaker c.iceberg.result _ _
-    (λ classes e.
-    ap (λ l. decoded_classes l classes.items) (sym c.dict.ensures.texts) ∙ e
-    ∙ ap₂ (answers.iceberg text_cmp (length s.schema.measures))
-    (rows-told s has.state c.dict.result.now.lists c.dict.ensures.texts) ask)
-    (c.iceberg.ensures.classes (source_of s) (tree-of _ _ _ c.requires.source.rows rows has)
-    (rows-known s has.state c.dict.result.now.lists c.dict.ensures.texts))
-
-pub returns-clause-told : goal.returns-clause-told
-returns-clause-told g c =
-    let rows = c.requires.source.rows.rows in
-    let has = c.requires.source.rows.kept in
-    let s = with_rows c.args.source.now.warehouse.now.state rows in
-    IfOk-weaker c.iceberg.result _ _
-    (λ classes e. subst (λ l. All (λ class. IsDecodableClass l (length s.schema.measures) (hit_in class)) classes.items)
-    c.dict.ensures.texts e)
-    (c.iceberg.ensures.told (source_of s) (tree-of _ _ _ c.requires.source.rows rows has)
-    (rows-known s has.state c.dict.result.now.lists c.dict.ensures.texts))
-
-pub returns-clause-steps : goal.returns-clause-steps
-returns-clause-steps g c = λ there. rw (← c.requires.source.rows.wide) (c.iceberg.ensures.steps there)
-
-pub returns-clause-walked : goal.returns-clause-walked
-returns-clause-walked g c = λ rows has.
-    rw (← c.requires.source.rows.wide)
-    (c.iceberg.ensures.walked (source_of (with_rows c.args.source.now.warehouse.now.state rows))
-    (tree-of _ _ _ c.requires.source.rows rows has))
+pub returns : goal.returns
+returns g c = record {
+  classes = λ rows has.
+      let s = with_rows c.args.source.now.warehouse.now.state rows in
+      let scale = c.scale_of_kind.ensures.value
+      ∙ ap (λ (l : Layout). scale_of l.measures (kind_in c.args.condition.kind)) c.schema.ensures.value in
+      let ask = ap (λ (n : ℕ). let a : answers.Ask
+      = record {
+        kind = kind_in c.args.condition.kind;
+        scale = n;
+        bound = bound_in c.args.condition.bound;
+        value
+            = fraction_in c.args.condition.value;
+      } in a) scale in
+      IfOk-weaker c.iceberg.result _ _
+      (λ classes e.
+      ap (λ l. decoded_classes l classes.items) (sym c.dict.ensures.texts) ∙ e
+      ∙ ap₂ (answers.iceberg text_cmp (length s.schema.measures))
+      (rows-told s has.state c.dict.result.now.lists c.dict.ensures.texts) ask)
+      (c.iceberg.ensures.classes (source_of s) (tree-of _ _ _ c.requires.source.rows rows has)
+      (rows-known s has.state c.dict.result.now.lists c.dict.ensures.texts));
+  told =
+      let rows = c.requires.source.rows.rows in
+      let has = c.requires.source.rows.kept in
+      let s = with_rows c.args.source.now.warehouse.now.state rows in
+      IfOk-weaker c.iceberg.result _ _
+      (λ classes e. subst (λ l. All (λ class. IsDecodableClass l (length s.schema.measures) (hit_in class)) classes.items)
+      c.dict.ensures.texts e)
+      (c.iceberg.ensures.told (source_of s) (tree-of _ _ _ c.requires.source.rows rows has)
+      (rows-known s has.state c.dict.result.now.lists c.dict.ensures.texts));
+  steps = λ there. rw (← c.requires.source.rows.wide) (c.iceberg.ensures.steps there);
+  walked = λ rows has.
+      rw (← c.requires.source.rows.wide)
+      (c.iceberg.ensures.walked (source_of (with_rows c.args.source.now.warehouse.now.state rows))
+      (tree-of _ _ _ c.requires.source.rows rows has));
+}

@@ -122,14 +122,12 @@ returns-in-Ok-clause-steps g c = λ rows has.
     c.requires.asked.source.rows.wide
     (c.in-Ok.ensures.steps (source_of s) (tree-of _ _ _ c.requires.asked.source.rows rows has))) c.nodes_reply.ensures.steps
 
-pub scale_of_kind-requires-clause-layout : goal.scale_of_kind-requires-clause-layout
-scale_of_kind-requires-clause-layout g c
-    = subst IsLayout (sym c.schema.ensures.value) c.schema.ensures.valid.state.consistent.layout
-
-pub scale_of_kind-requires-clause-measured : goal.scale_of_kind-requires-clause-measured
-scale_of_kind-requires-clause-measured g c
-    = subst (λ (l : Layout). IsMeasured (length l.measures) (kind_in c.args.condition.kind))
-    (sym c.schema.ensures.value) c.requires.measured
+pub scale_of_kind-requires : goal.scale_of_kind-requires
+scale_of_kind-requires g c = record {
+  layout = subst IsLayout (sym c.schema.ensures.value) c.schema.ensures.valid.state.consistent.layout;
+  measured = subst (λ (l : Layout). IsMeasured (length l.measures) (kind_in c.args.condition.kind))
+      (sym c.schema.ensures.value) c.requires.measured;
+}
 
 pub invariant_of-ask : goal.invariant_of-ask
 invariant_of-ask g c = record { in_range = c.scale_of_kind.ensures.few }
@@ -137,13 +135,12 @@ invariant_of-ask g c = record { in_range = c.scale_of_kind.ensures.few }
 pub rollup-requires-clause-class : goal.rollup-requires-clause-class
 rollup-requires-clause-class g c = c.in-Some.ensures.class
 
-pub nodes_reply-requires-clause-classes : goal.nodes_reply-requires-clause-classes
-nodes_reply-requires-clause-classes g c
-    = subst (All (λ (node : NodeNo). IsSome (record_at (g.T.Nodes.tree c.args.source.now.tree.now) node.0).class))
-    (sym c.deref.ensures.value) c.in-Ok.ensures.classes
-
-pub nodes_reply-requires-clause-source : goal.nodes_reply-requires-clause-source
-nodes_reply-requires-clause-source g c = c.requires.asked.source
+pub nodes_reply-requires : goal.nodes_reply-requires
+nodes_reply-requires g c = record {
+  classes = subst (All (λ (node : NodeNo). IsSome (record_at (g.T.Nodes.tree c.args.source.now.tree.now) node.0).class))
+      (sym c.deref.ensures.value) c.in-Ok.ensures.classes;
+  source = c.requires.asked.source;
+}
 
 pub returns-in_default-clause-reply : goal.returns-in_default-clause-reply
 returns-in_default-clause-reply g c = λ rows has.

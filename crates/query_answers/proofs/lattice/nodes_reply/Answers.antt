@@ -61,12 +61,3 @@ returns-clause-reply g c = λ rows has.
     ∙ ap (λ lists. iceberg_text c.args.number s.schema.measures
     (map (class_alone text_cmp (length s.schema.measures) s.rows) (decoded_nodes lists tree nodes)))
     c.dict-dict.ensures.texts
-
-pub returns-in_err-classes-clause-steps : goal.returns-in_err-classes-clause-steps
-returns-in_err-classes-clause-steps g c = rw (← c.requires.source.rows.wide) c.in_err-classes.ensures.steps
-
-pub returns-in_err-reply-clause-steps : goal.returns-in_err-reply-clause-steps
-returns-in_err-reply-clause-steps g c = rw (← c.requires.source.rows.wide) c.in_ok-classes.ensures.steps
-
-pub returns-clause-steps : goal.returns-clause-steps
-returns-clause-steps g c = rw (← c.requires.source.rows.wide) c.in_ok-classes.ensures.steps

@@ -17,13 +17,12 @@ returns-in_err-cell-clause-value g c = λ rows has.
     c.requires.point (sym c.cell_of.ensures ∙ c.in_err-cell.was) in
     ap (option_map (λ found. agg_in found.1)) c.from_residual.ensures ∙ sym none
 
-pub total_at-requires-clause-dims : goal.total_at-requires-clause-dims
-total_at-requires-clause-dims g c =
-    length-found c.dict.result.now.lists c.args.asked.now c.in_ok-cell.cell (sym c.cell_of.ensures ∙ c.in_ok-cell.was)
-    ∙ c.requires.dims ∙ sym c.requires.source.rows.wide
-
-pub total_at-requires-clause-tree : goal.total_at-requires-clause-tree
-total_at-requires-clause-tree g c = some-tree _ _ _ c.requires.source.rows
+pub total_at-requires : goal.total_at-requires
+total_at-requires g c = record {
+  dims = length-found c.dict.result.now.lists c.args.asked.now c.in_ok-cell.cell (sym c.cell_of.ensures ∙ c.in_ok-cell.was)
+      ∙ c.requires.dims ∙ sym c.requires.source.rows.wide;
+  tree = some-tree _ _ _ c.requires.source.rows;
+}
 
 pub returns-in_err-total-clause-value : goal.returns-in_err-total-clause-value
 returns-in_err-total-clause-value g c = λ rows has.
