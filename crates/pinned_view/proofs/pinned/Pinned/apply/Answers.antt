@@ -1,9 +1,8 @@
 use Rattle.std.proofs.Common.{Err, Ok, ap, arith, map, refl, subst, sym, ◌∙◌, ◌≡◌}
-use Rattle.std.specs.Prelude.{IfSome, IsErr}
-use Rattle.csv_load.specs.Files.{batch_in}
+use Rattle.std.specs.Prelude.{IfSome}
 use Rattle.warehouse.proofs.CallerLemmas.{taken-of, tree-after}
 use Rattle.warehouse.specs.Batch.{Apply, result}
-use Rattle.warehouse.specs.InPlace.{IsWithinCost, LeavesOtherRecords, LeavesNumbers}
+use Rattle.warehouse.specs.InPlace.{LeavesOtherRecords, LeavesNumbers}
 use Rattle.warehouse.specs.State.{Contents, State}
 use Rattle.warehouse.specs.Stored.{applied_in, refusal_in}
 use Rattle.pinned_view.specs.Pins.{ArePins, version_in}
@@ -101,9 +100,6 @@ returns-in-Ok-apply-clause-pins g c =
     versions_kept c.settle.ensures.keeps
     ∙ ap (λ (v : Versions). v.pins) c.self.view_is
 
-pub returns-in-Ok-apply-clause-valid : goal.returns-in-Ok-apply-clause-valid
-returns-in-Ok-apply-clause-valid g c = c.keep_images.ensures.valid
-
 pub returns-in-Ok-apply-clause-gives : goal.returns-in-Ok-apply-clause-gives
 returns-in-Ok-apply-clause-gives g c =
     let was = c.self.inside.warehouse in
@@ -113,21 +109,6 @@ returns-in-Ok-apply-clause-gives g c =
     c.self.view_is
     (subst (λ (now : Contents). result was.state Apply file ≡ Ok (applied_in now.state applied))
     (sym c.keep_images.ensures.rest) c.in-Ok-apply.ensures.gives)
-
-pub returns-in-Ok-apply-clause-steps : goal.returns-in-Ok-apply-clause-steps
-returns-in-Ok-apply-clause-steps g c =
-    subst (λ (v : Versions). IsWithinCost v.now.state c.args.bytes.now c.args.steps.now c.apply.new.steps)
-    c.self.view_is c.in-Ok-apply.ensures.steps
-
-pub returns-in-Ok-apply-clause-unread : goal.returns-in-Ok-apply-clause-unread
-returns-in-Ok-apply-clause-unread g c
-    = subst (λ (v : Versions). IsErr (batch_in v.now.state.schema c.args.bytes.now)
-    → c.apply.new.steps ≡ c.args.steps.now) c.self.view_is c.apply.ensures.unread
-
-pub returns-in-Err-apply-clause-unread : goal.returns-in-Err-apply-clause-unread
-returns-in-Err-apply-clause-unread g c
-    = subst (λ (v : Versions). IsErr (batch_in v.now.state.schema c.args.bytes.now)
-    → c.apply.new.steps ≡ c.args.steps.now) c.self.view_is c.apply.ensures.unread
 
 pub returns-in-Ok-apply-clause-lists : goal.returns-in-Ok-apply-clause-lists
 returns-in-Ok-apply-clause-lists g c =

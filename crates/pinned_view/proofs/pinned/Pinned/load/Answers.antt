@@ -1,10 +1,8 @@
-use Rattle.std.proofs.Common.{Err, Ok, ap, arith, refl, subst, sym, ◌∙◌, ◌≡◌, ◌≤◌, ◌+◌}
-use Rattle.std.specs.Prelude.{IfSome}
+use Rattle.std.proofs.Common.{Ok, ap, arith, refl, subst, sym, ◌∙◌, ◌≡◌}
 use Rattle.warehouse.proofs.CallerLemmas.{taken-of, tree-after}
 use Rattle.warehouse.specs.Batch.{Load, result}
-use Rattle.warehouse.specs.Loading.{cost_of_load}
 use Rattle.warehouse.specs.State.{Contents, State}
-use Rattle.warehouse.specs.Stored.{applied_in, refusal_in}
+use Rattle.warehouse.specs.Stored.{applied_in}
 use Rattle.pinned_view.specs.Pins.{ArePins}
 use Rattle.pinned_view.specs.Versions.{Versions}
 use Rattle.pinned_view.proofs.Staying.{after_change, pins_settled, versions_kept}
@@ -62,11 +60,6 @@ returns-in-Err-clause-err g c =
     shows_same m.warehouse m.warehouse m.kept.items c.settle.new.kept.items m.pins.items c.settle.new.pins.items
     c.args.self.now refl (versions_kept c.settle.ensures.keeps) c.self.view_is
 
-pub returns-in-Err-load-clause-gives : goal.returns-in-Err-load-clause-gives
-returns-in-Err-load-clause-gives g c =
-    subst (λ (v : Versions). IfSome (refusal_in c.in-Err-load.refused)
-    (λ refusal. result v.now.state Load c.args.bytes.now ≡ Err refusal)) c.self.view_is c.in-Err-load.ensures.gives
-
 pub returns-in-Err-load-clause-pins : goal.returns-in-Err-load-clause-pins
 returns-in-Err-load-clause-pins g c =
     versions_kept c.settle.ensures.keeps
@@ -84,9 +77,6 @@ returns-in-Ok-load-clause-pins g c =
     versions_kept c.settle.ensures.keeps
     ∙ ap (λ (v : Versions). v.pins) c.self.view_is
 
-pub returns-in-Ok-load-clause-valid : goal.returns-in-Ok-load-clause-valid
-returns-in-Ok-load-clause-valid g c = c.keep_images.ensures.valid
-
 pub returns-in-Ok-load-clause-gives : goal.returns-in-Ok-load-clause-gives
 returns-in-Ok-load-clause-gives g c =
     let was = c.self.inside.warehouse in
@@ -96,11 +86,6 @@ returns-in-Ok-load-clause-gives g c =
     c.self.view_is
     (subst (λ (now : Contents). result was.state Load file ≡ Ok (applied_in now.state applied))
     (sym c.keep_images.ensures.rest) c.in-Ok-load.ensures.gives)
-
-pub returns-in-Ok-load-clause-steps : goal.returns-in-Ok-load-clause-steps
-returns-in-Ok-load-clause-steps g c =
-    subst (λ (now : Contents). c.load.new.steps ≤ c.args.steps.now + cost_of_load now.state)
-    (sym c.keep_images.ensures.rest) c.in-Ok-load.ensures.steps
 
 pub returns-in-Ok-load-clause-lists : goal.returns-in-Ok-load-clause-lists
 returns-in-Ok-load-clause-lists g c =

@@ -9,7 +9,7 @@ use Rattle.pinned_view.specs.Versions.{Version, Versions, version_of, without}
 use Rattle.pinned_view.specs.declared.pins.Pin.{Pin}
 use Rattle.pinned_view.proofs.Refusing.{found, missing}
 use Rattle.pinned_view.proofs.Staying.{some_left, versions_left}
-use Rattle.pinned_view.proofs.StoredNumbers.{stored_drop, stored_same}
+use Rattle.pinned_view.proofs.StoredNumbers.{stored_drop}
 use Rattle.pinned_view.proofs.pinned.Pinned.unpin.Goals as goal
 
 pub returns-then-is_none-clause-missing : goal.returns-then-is_none-clause-missing
@@ -60,6 +60,3 @@ returns-clause-stored c =
     subst (λ (v : Versions). StoresNoMore v.stored c.drop_oldest.new.kept.items) c.self.view_is
     (subst (λ (k : List ImageMap). StoresNoMore m.kept.items k) (sym c.drop_oldest.ensures)
     (stored_drop c.oldest-first.result m.kept.items))
-
-pub returns-then-is_none-clause-stored : goal.returns-then-is_none-clause-stored
-returns-then-is_none-clause-stored c = stored_same _
