@@ -72,9 +72,8 @@ module _ (words : List ℕ) (m w : ℕ) (h : m < length (bits_of words)) (is : w
 
 -- words without bits
 zeros : (n i : ℕ) → ◌≡◌ {A = ℕ} (get_or (replicate n 0) i 0) 0
-zeros zero i = refl
-zeros (suc n) zero = refl
 zeros (suc n) (suc i) = zeros n i
+zeros _ i = refl
 
 pub none_marked : (words : List ℕ) (n m : ℕ) → words ≡ replicate n 0 → is_marked (bits_of words) m ≡ false
 none_marked words n m e = go (cases_lt m (length (bits_of words)))

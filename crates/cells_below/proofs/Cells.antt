@@ -108,9 +108,8 @@ module _ {A : Type 0} where
 
 module _ {A : Type 0} {eq : A → A → Bool} (law : IsEquality eq) where
   entry_below : (b : Bool) (e : Option A) → entry_leq eq (if b then e else None) e ≡ true
-  entry_below false e = refl
-  entry_below true None = refl
   entry_below true (Some v) = law.same v
+  entry_below _ e = refl
 
   -- the cell of a number generalizes the cell, and more bits make a greater cell
   pub cell_below : (u : Cell A) (m : ℕ) → leq eq (cell_of_number u m) u ≡ true
@@ -119,10 +118,9 @@ module _ {A : Type 0} {eq : A → A → Bool} (law : IsEquality eq) where
 
   entry_more : (b d : Bool) (e : Option A) → (b ≡ true → d ≡ true)
       → entry_leq eq (if b then e else None) (if d then e else None) ≡ true
-  entry_more false d e h = refl
   entry_more true false e h = absurd (true≢false (sym (h refl)))
-  entry_more true true None h = refl
   entry_more true true (Some v) h = law.same v
+  entry_more _ d e h = refl
 
   pub more_bits : (u : Cell A) (m n : ℕ) → ((k : ℕ) → has_bit m k ≡ true → has_bit n k ≡ true)
       → leq eq (cell_of_number u m) (cell_of_number u n) ≡ true

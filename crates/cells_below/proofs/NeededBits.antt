@@ -13,24 +13,9 @@ use Rattle.cells_below.proofs.Cells.{cell_below, more_values}
 use Rattle.cells_below.proofs.Turned.{turned_other}
 
 ones : (j : ℕ) → j < 16 → has_bit 4294967295 j ≡ true
-ones zero h = refl
-ones (suc zero) h = refl
-ones (suc (suc zero)) h = refl
-ones (suc (suc (suc zero))) h = refl
-ones (suc (suc (suc (suc zero)))) h = refl
-ones (suc (suc (suc (suc (suc zero))))) h = refl
-ones (suc (suc (suc (suc (suc (suc zero)))))) h = refl
-ones (suc (suc (suc (suc (suc (suc (suc zero))))))) h = refl
-ones (suc (suc (suc (suc (suc (suc (suc (suc zero)))))))) h = refl
-ones (suc (suc (suc (suc (suc (suc (suc (suc (suc zero))))))))) h = refl
-ones (suc (suc (suc (suc (suc (suc (suc (suc (suc (suc zero)))))))))) h = refl
-ones (suc (suc (suc (suc (suc (suc (suc (suc (suc (suc (suc zero))))))))))) h = refl
-ones (suc (suc (suc (suc (suc (suc (suc (suc (suc (suc (suc (suc zero)))))))))))) h = refl
-ones (suc (suc (suc (suc (suc (suc (suc (suc (suc (suc (suc (suc (suc zero))))))))))))) h = refl
-ones (suc (suc (suc (suc (suc (suc (suc (suc (suc (suc (suc (suc (suc (suc zero)))))))))))))) h = refl
-ones (suc (suc (suc (suc (suc (suc (suc (suc (suc (suc (suc (suc (suc (suc (suc zero))))))))))))))) h = refl
 ones (suc (suc (suc (suc (suc (suc (suc (suc (suc (suc (suc (suc (suc (suc (suc (suc n)))))))))))))))) h
     = absurd (omega (arith, h))
+ones _ h = refl
 
 none_bit : (k : ℕ) → has_bit 0 k ≡ false
 none_bit k = ap (λ b. nat_eq b 1) (bit_at-zero k)

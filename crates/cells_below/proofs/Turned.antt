@@ -10,14 +10,12 @@ use Rattle.std.proofs.lemmas.Nat.Bits.{bit_at_xor, bit_at_or, bit_at-lt, bit_at-
 use Rattle.cells_below.specs.Numbers.{has_bit, turned}
 
 stays : (b : ℕ) → b < 2 → (b + 0) % 2 ≡ b
-stays zero h = refl
-stays (suc zero) h = refl
 stays (suc (suc b)) h = absurd (omega arith)
+stays _ h = refl
 
 flips : (b : ℕ) → b < 2 → nat_eq ((b + 1) % 2) 1 ≡ not (nat_eq b 1)
-flips zero h = refl
-flips (suc zero) h = refl
 flips (suc (suc b)) h = absurd (omega arith)
+flips _ h = refl
 
 pub turned_other : (m k j : ℕ) → j ≢ k → has_bit (turned m k) j ≡ has_bit m j
 turned_other m k j ne =
@@ -37,9 +35,8 @@ zero_of (suc zero) h e = absurd (true≢false e)
 zero_of (suc (suc b)) h e = absurd (omega arith)
 
 kept_of : (b : ℕ) → b < 2 → (b + 0) % 2 ≡ max b 0
-kept_of zero h = refl
-kept_of (suc zero) h = refl
 kept_of (suc (suc b)) h = absurd (omega arith)
+kept_of _ h = refl
 
 -- where the number misses the bit, it is put in
 turned_is_or : (m k : ℕ) → has_bit m k ≡ false → turned m k ≡ bit_or m (2 ^ k)
