@@ -22,10 +22,9 @@ bytes-push xs x = omega (arith, bytes-append xs (x ∷ []))
 -- an action adds at most the byte at hand
 acted : (a : Action) (c : ℕ) (fields : List (List ℕ)) (field : List ℕ)
     → bytes_in (fields_after a fields field) + length (field_after a c field) ≤ bytes_in fields + length field + 1
-acted act.EndField c fields field = omega (arith, bytes-push fields field)
-acted act.EndRecord c fields field = omega (arith, bytes-push fields field)
 acted act.Skip c fields field = omega arith
 acted act.Copy c fields field = omega (arith, length_push field c)
+acted _ c fields field = omega (arith, bytes-push fields field)
 
 is-within : (size : ℕ) (a p : Read) → Some a ≡ Some p → bytes_in a.0 + length a.2 ≤ size
     → bytes_in p.0 + length p.2 ≤ size
@@ -98,6 +97,5 @@ few_records text = records-few (length text + 1) st.StartRecord text refl
 
 -- a field has no more bytes than its record
 pub field-within : (xs : List (List ℕ)) (k : ℕ) → length (get_or xs k []) ≤ bytes_in xs
-field-within [] k = omega arith
-field-within (x ∷ xs) zero = omega arith
 field-within (x ∷ xs) (suc k) = omega (arith, field-within xs k)
+field-within _ k = omega arith

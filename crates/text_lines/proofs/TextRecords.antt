@@ -46,14 +46,8 @@ action_high st.InComment = act.Skip
 action_high st.AfterCr = act.Copy
 
 high-step : (s : State) (b : ℕ) → 128 ≤ b → step default_config s b ≡ (state_high s, action_high s)
-high-step st.StartRecord b h = grind (arith, nat_tests)
-high-step st.StartField b h = grind (arith, nat_tests)
-high-step st.InField b h = grind (arith, nat_tests)
-high-step st.InQuoted b h = grind (arith, nat_tests)
 high-step st.InEscape b h = refl
-high-step st.AfterQuote b h = grind (arith, nat_tests)
-high-step st.InComment b h = grind (arith, nat_tests)
-high-step st.AfterCr b h = grind (arith, nat_tests)
+high-step _ b h = grind (arith, nat_tests)
 
 -- bytes that are copied join the field at hand
 copied : (bs rest : List ℕ) (s : State) (fields : List (List ℕ)) (field : List ℕ) → state_high s ≡ s
@@ -102,16 +96,14 @@ nothing-left p s fields field all one e = by (ends_at_end s) e
 -- an ASCII byte
 fields-ascii : (a : Action) (fields : List (List ℕ)) (field : List ℕ) → All IsUtf8 fields → IsUtf8 field
     → All IsUtf8 (fields_after a fields field)
-fields-ascii act.EndField fields field all one = All-push IsUtf8 fields field all one
-fields-ascii act.EndRecord fields field all one = All-push IsUtf8 fields field all one
 fields-ascii act.Skip fields field all one = all
 fields-ascii act.Copy fields field all one = all
+fields-ascii _ fields field all one = All-push IsUtf8 fields field all one
 
 field-ascii : (a : Action) (c : ℕ) (field : List ℕ) → IsUtf8 (c ∷ []) → IsUtf8 field → IsUtf8 (field_after a c field)
-field-ascii act.EndField c field char one = IsUtf8-nil
-field-ascii act.EndRecord c field char one = IsUtf8-nil
 field-ascii act.Skip c field char one = one
 field-ascii act.Copy c field char one = IsUtf8-append field (c ∷ []) one char
+field-ascii _ c field char one = IsUtf8-nil
 
 reads-ascii : (c : ℕ) (rest : List ℕ) (p : Read) → IsUtf8 (c ∷ []) → IsUtf8 rest → ReadsText rest p
     → ReadsText (c ∷ rest) p
