@@ -53,21 +53,19 @@ module _ (ask : Text → Option asked.Field) (P : asked.Field → Type 0) (asks 
       (fields : List asked.Field) → ((field : asked.Field) → o ≡ Some field → P field)
       → ((rest : List asked.Field) → more ≡ Ok rest → AreFields dims rest) → cons_asked k o more ≡ Ok fields
       → AreFields (suc dims) fields
-  are-more k dims None more fields first then e = absurd (cc e)
-  are-more k dims (Some field) (Err fault) fields first then e = absurd (cc e)
   are-more k dims (Some field) (Ok rest) fields first then e =
       let same : field ∷ rest ≡ fields = cc in
       let h = then rest refl in
       rw (← same) (record { count = omega (arith, h.count); each = All-cons P field rest (first field refl) h.each })
+  are-more k dims _ more fields first then e = absurd (cc e)
 
   are-fields : (texts : List Text) (k dims : ℕ) (fields : List asked.Field) → fields_from ask k dims texts ≡ Ok fields
       → AreFields dims fields
   are-fields [] k zero fields e = let same : [] ≡ fields = cc in rw (← same) (record { count = refl; each = All-nil P })
-  are-fields [] k (suc dims) fields e = absurd (cc e)
-  are-fields (text ∷ texts) k zero fields e = absurd (cc e)
   are-fields (text ∷ texts) k (suc dims) fields e =
       are-more k dims (ask text) (fields_from ask (k + 1) dims texts) fields (asks text)
       (are-fields texts (k + 1) dims) e
+  are-fields _ k _ fields e = absurd (cc e)
 
 unmarked : (shape : Shape) (dims : ℕ) (rest : List ℕ) (fields : List asked.Field)
     → record_in shape dims rest ≡ Ok fields → fields_from (field_of shape) 1 dims (fields_in rest) ≡ Ok fields

@@ -61,9 +61,8 @@ get-prefix (f ∷ before) field (suc k) lt = get-prefix before field k (omega ar
 get-last : (before : List Field) (field : Field) (k : ℕ) → k ≡ length before
     → get_or (before ++ field ∷ []) k Any ≡ field
 get-last [] field zero e = refl
-get-last [] field (suc k) e = absurd (omega arith)
-get-last (f ∷ before) field zero e = absurd (omega arith)
 get-last (f ∷ before) field (suc k) e = get-last before field k (omega arith)
+get-last _ field _ e = absurd (omega arith)
 
 entry-prefix : (lists : List (List Text)) (before : List Field) (field : Field) (k : ℕ) → k < length before
     → entry_at lists (before ++ field ∷ []) k ≡ entry_at lists before k

@@ -39,17 +39,14 @@ returns-in_err-push_field-clause-err c =
     rw p.1 (λ more. rw (p.2, ← (c.pieces.invariant.asked more), cut)
     (c.in_err-push_field.ensures.err (pieces c.in-Some.behind.now ++ more)))
 
-pub returns-clause-ok : goal.returns-clause-ok
-returns-clause-ok c =
+pub returns : goal.returns
+returns c =
     let cut : pieces c.pieces.left.now ≡ c.pieces.left.now ∷ []
     = split-cut 44 c.pieces.left.now None c.in_default.ensures.cases (omega arith) in
-    on_ok_weaker c.push_field-2.result (λ ok more. ok more
-    ∙ ap (λ (all : List Text). asks c.pieces.so_far (all ++ more))
-    (sym cut) ∙ c.pieces.invariant.asked more) c.push_field-2.ensures.ok
-
-pub returns-clause-err : goal.returns-clause-err
-returns-clause-err c =
-    let cut : pieces c.pieces.left.now ≡ c.pieces.left.now ∷ []
-    = split-cut 44 c.pieces.left.now None c.in_default.ensures.cases (omega arith) in
-    IfErr-weaker c.push_field-2.result _ _ (λ e fails more. rw (← (c.pieces.invariant.asked more), cut) (fails more))
-    c.push_field-2.ensures.err
+    record {
+      ok = on_ok_weaker c.push_field-2.result (λ ok more. ok more
+          ∙ ap (λ (all : List Text). asks c.pieces.so_far (all ++ more))
+          (sym cut) ∙ c.pieces.invariant.asked more) c.push_field-2.ensures.ok;
+      err = IfErr-weaker c.push_field-2.result _ _ (λ e fails more. rw (← (c.pieces.invariant.asked more), cut) (fails more))
+          c.push_field-2.ensures.err;
+    }

@@ -6,19 +6,16 @@ use Rattle.csv.specs.Records.{fields_of}
 use Rattle.text_lines.specs.Records.{bytes_in_all}
 use Rattle.query_script.proofs.record.push_records.Goals as goal
 
-pub push_fields-requires-clause-text : goal.push_fields-requires-clause-text
-push_fields-requires-clause-text c =
+pub push_fields-requires : goal.push_fields-requires
+push_fields-requires c =
     let left : c.records.rows ≡ fields_of c.next.new.row ∷ c.next.new.self
     = rw c.if-branch.true at c.in_ok-next.ensures.next in
-    All-head (All IsUtf8) (fields_of c.next.new.row) c.next.new.self
-    (All-same (All IsUtf8) (fields_of c.next.new.row ∷ c.next.new.self) c.records.rows
-    (sym left) c.records.invariant.text)
-
-pub push_fields-requires-clause-size : goal.push_fields-requires-clause-size
-push_fields-requires-clause-size c =
-    let left : c.records.rows ≡ fields_of c.next.new.row ∷ c.next.new.self
-    = rw c.if-branch.true at c.in_ok-next.ensures.next in
-    omega (arith, ap bytes_in_all left, c.records.invariant.size)
+    record {
+      text = All-head (All IsUtf8) (fields_of c.next.new.row) c.next.new.self
+          (All-same (All IsUtf8) (fields_of c.next.new.row ∷ c.next.new.self) c.records.rows
+          (sym left) c.records.invariant.text);
+      size = omega (arith, ap bytes_in_all left, c.records.invariant.size);
+    }
 
 pub records-preserved : goal.records-preserved
 records-preserved c =

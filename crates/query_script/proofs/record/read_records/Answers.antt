@@ -2,13 +2,11 @@ use Rattle.std.proofs.Common.{◌∙◌, sym, ap, arith, length}
 use Rattle.query_script.proofs.Asked.{record-asks, rows-text}
 use Rattle.query_script.proofs.record.read_records.Goals as goal
 
-pub push_records-pushed-requires-clause-text : goal.push_records-pushed-requires-clause-text
-push_records-pushed-requires-clause-text c
-    = rows-text c.as_bytes.result.now c.new-rows.result c.as_bytes.ensures.utf8 c.new-rows.ensures.records
-
-pub push_records-pushed-requires-clause-size : goal.push_records-pushed-requires-clause-size
-push_records-pushed-requires-clause-size c
-    = omega (arith, c.new-rows.ensures.size, ap length c.as_bytes.ensures.value, c.args.rest.now.short)
+pub push_records-pushed-requires : goal.push_records-pushed-requires
+push_records-pushed-requires c = record {
+  text = rows-text c.as_bytes.result.now c.new-rows.result c.as_bytes.ensures.utf8 c.new-rows.ensures.records;
+  size = omega (arith, c.new-rows.ensures.size, ap length c.as_bytes.ensures.value, c.args.rest.now.short);
+}
 
 pub returns-in-Ok : goal.returns-in-Ok
 returns-in-Ok c =
