@@ -38,7 +38,8 @@ pub(crate) fn add_prefix_node<L: Ledger>(
     ensures done { OnOk result
         (HasDone part.now.table.now (prefix_acts edge.is_forced part.now.shared.now dim edge.code)
         builder.old.arena.now builder.new.arena.now builder.new.fronts.now) }
-    ensures path { OnOk result (IsOnPath builder.new.arena.now path.new part.now.shared.now (dim + 1)) }
+    ensures path { OnOk result
+        (IsOnPath builder.new.arena.now path.new part.now.shared.now (dim + 1)) }
     ensures full { result ≡ Err ArenaRefused.Full
         → builder.old.arena.now.max < length (nodes nat_cmp (rows_of part.now.table.now)) }
     ensures frame { frame builder.new.arena.now ≡ frame builder.old.arena.now }

@@ -7,8 +7,8 @@ ghost use Rattle.aggregates.specs.Views.{agg_in};
 use crate::part::Partition;
 use aggregates::Agg;
 
-/// Makes it the aggregate of the part's rows. It stays where it is: a copy right after the rows were
-/// added would wait for what was written last.
+/// Makes it the aggregate of the part's rows. It stays where it is: a copy of it right after the
+/// last row was added would wait for what was just written.
 pub(crate) fn total(part: &Partition<'_>, agg: &mut Agg)
     requires { agg.old.measures ≡ part.now.table.now.measures }
     ensures { agg_in agg.new

@@ -87,7 +87,8 @@ fn drill_at<L: Ledger>(
         (acts_at (acts_from part.now.table.now (dim + 1)) dim part.now.shared.now
         (slice_index_or part.now.shared.now dim None) (named part.now.table.now part.now.rows.now))
         builder.old.arena.now builder.new.arena.now builder.new.fronts.now) }
-    ensures path { OnOk result (IsOnPath builder.new.arena.now path.new part.now.shared.now (dim + 1)) }
+    ensures path { OnOk result
+        (IsOnPath builder.new.arena.now path.new part.now.shared.now (dim + 1)) }
     ensures full { result ≡ Err ArenaRefused.Full
         → builder.old.arena.now.max < length (nodes nat_cmp (rows_of part.now.table.now)) }
     ensures frame { frame builder.new.arena.now ≡ frame builder.old.arena.now }
@@ -96,7 +97,8 @@ fn drill_at<L: Ledger>(
     ensures steps { OnOk result (builder.new.steps.now ≤ builder.old.steps.now
         + cost_of_acts part.now.table.now.dims
         (acts_at (acts_from part.now.table.now (dim + 1)) dim part.now.shared.now
-        (slice_index_or part.now.shared.now dim None) (named part.now.table.now part.now.rows.now))) }
+        (slice_index_or part.now.shared.now dim None)
+        (named part.now.table.now part.now.rows.now))) }
 {
     match part.shared.get(dim) {
         Entry::Is(code) => {
