@@ -9,5 +9,5 @@ mod totals;
 
 pub use canonical::CanonicalTree;
 pub use climb::upper_into;
-pub use search::{find, step, step_with_forced};
+pub use search::{find, step};
 pub use totals::total_at;
