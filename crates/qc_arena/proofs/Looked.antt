@@ -1,12 +1,13 @@
 -- Images sorted by their numbers, and looked up.
 use Rattle.std.proofs.Common.{is_some, length-append, ◌+◌, ◌≡◌, ◌≢◌, ◌∙◌, ℕ, zero, suc, ◌<◌, Bool, true, false, cond, Option, Some, None}
-use Rattle.std.proofs.Common.{List, [], ◌∷◌, ◌++◌, Ok, Err, length, map, get_or, nat_eq, nat_cmp, refl, sym, ap, subst, arith, inl, inr}
+use Rattle.std.proofs.Common.{List, [], ◌∷◌, ◌++◌, Ok, Err, length, map, get_or, nat_eq, nat_cmp, refl, sym, ap, ap₂, subst, arith, is_lt, inl, inr}
 use Rattle.std.specs.FinMap as map
-use Rattle.std.proofs.lemmas.List.{length-map}
+use Rattle.std.proofs.lemmas.List.{get_or-map, length-map}
 use Rattle.std.specs.Cmp.{nat_cmp_total}
 use Rattle.std.specs.List.{AllByRecursion, IsDistinct}
-use Rattle.std.specs.List.Sorted.{IsBinarySearchResult, IsPermutation, IsSortedByKey}
+use Rattle.std.specs.List.Sorted.{IsBinarySearchResult, IsPermutation, IsSorted, IsSortedByKey}
 use Rattle.std.specs.Map.{lookup}
+use Rattle.std.specs.Option.{IfNone, IfSome}
 use Rattle.std.proofs.lemmas.Bool.{cases_lt, cond-true, cond-false, eq-eqb, ne_eqb}
 use Rattle.std.proofs.lemmas.List.Sorted.{Contains-permutation, IsPermutation-append, IsPermutation-map, IsPermutation-sym}
 use Rattle.std.proofs.lemmas.List.Sorted.{searchable_from_sorted}
@@ -42,6 +43,35 @@ module _ {X : Type 0} where
   none_at k [] h = refl
   none_at k (e ∷ es) h = cond-false _ _ _ (ne_eqb k e.0 (λ s. h 0 e (omega arith) (sym s)))
       ∙ none_at k es (λ i d l. h (suc i) d (omega arith))
+
+  -- the numbers of entries, side by side
+  abbrev numbers : List (ℕ × X) → List ℕ
+  numbers = map (λ e. e.0)
+
+  pub sorted_numbers : (es : List (ℕ × X)) → IsSortedByKey (λ e. e.0) nat_cmp es → IsSorted nat_cmp (numbers es)
+  sorted_numbers [] sorted i d low l = absurd (omega (arith, l))
+  sorted_numbers (e ∷ es) sorted i d low l =
+      let within : i + 1 < length (e ∷ es) = omega (arith, l, length-map (e ∷ es) (λ f. f.0)) in
+      ap₂ (λ a b. is_lt (nat_cmp a b)) (get_or-map (λ f. f.0) (e ∷ es) (i + 1) e d within)
+      (get_or-map (λ f. f.0) (e ∷ es) i e d (omega (arith, within)))
+      ∙ sorted i e low within
+
+  pub number_found : (k : ℕ) (es : List (ℕ × X)) (found : Option ℕ) → IfSome found (λ i. i < length (numbers es))
+      → IfSome found (λ i. (d : ℕ) → get_or (numbers es) i d ≡ k) → IfSome found (λ i. (d : ℕ × X) → (get_or es i d).0 ≡ k)
+  number_found k es None within is = tt
+  number_found k es (Some i) within is
+      = λ d. sym (get_or-map (λ f. f.0) es i d d.0 (omega (arith, within, length-map es (λ f. f.0)))) ∙ is d.0
+
+  pub number_missed : (k : ℕ) (es : List (ℕ × X)) → ((i d : ℕ) → i < length (numbers es) → get_or (numbers es) i d ≢ k)
+      → lookup (nat_eq k) es ≡ None
+  number_missed k es h = none_at k es (λ i d l same.
+      h i d.0 (omega (arith, l, length-map es (λ f. f.0))) (get_or-map (λ f. f.0) es i d d.0 l ∙ same))
+
+  pub not_found : (k : ℕ) (es : List (ℕ × X)) (found : Option ℕ)
+      → IfNone found ((i d : ℕ) → i < length (numbers es) → get_or (numbers es) i d ≢ k)
+      → IfNone found (lookup (nat_eq k) es ≡ None)
+  not_found k es None h = number_missed k es h
+  not_found k es (Some i) h = tt
 
   pub one_at : (k : ℕ) (es : List (ℕ × X)) (i : ℕ) (e : ℕ × X) → IsOnce es → i < length es → e ≡ get_or es i e → e.0 ≡ k
       → lookup (nat_eq k) es ≡ Some e.1

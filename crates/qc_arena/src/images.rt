@@ -1,15 +1,18 @@
 // Before-images by node number.
 ghost use Rattle.std.specs.FinMap as map;
 ghost use Rattle.std.specs.Map.{lookup};
-ghost use Rattle.std.specs.Prelude.{IfErr, IfNone, IfSome, None, OnErr, OnOk, Some, if◌then◌else◌, length, nat_eq, slice_index_or, ℕ, ◌++◌, ◌<◌, ◌≡◌};
+ghost use Rattle.std.specs.Prelude.{IfErr, IfNone, IfSome, IsSome, None, OnErr, OnOk, Some, if◌then◌else◌, false, length, map, nat_eq, slice_index_or, ℕ, ◌++◌, ◌<◌, ◌≡◌, ◌≢◌};
 ghost use Rattle.std.specs.Option.{option_or};
 ghost use Rattle.std.specs.List.Sorted.{IsSorted, IsSortedByKey};
 ghost use Rattle.std.specs.Ordering.{nat_cmp};
 ghost use Rattle.qc_arena.specs.Entries.{IsOnce, all_new, entry_number};
+ghost use Rattle.qc_arena.specs.Index.{IsIndexOf};
 ghost use Rattle.qc_arena.specs.Looks.{look_of_image};
+ghost use Rattle.qc_arena.specs.Marks.{is_marked};
 
 use crate::image::{Image, Record};
 use crate::merge::Merge;
+use crate::number_index::NumberIndex;
 use crate::number_list::NumberList;
 use crate::sorted_images::SortedImages;
 use cell_core::NodeNo;
@@ -27,19 +30,21 @@ pub enum Look<'a> {
 }
 
 /// The before-images of the nodes that a batch touched: for each number a record, or that there was
-/// no node.
+/// no node. Without an index, for which memory ran out, a look takes longer.
 #[derive(Drop)]
 pub struct Images {
     changed: Vec<(u32, Image)>,
     added: NumberList,
+    index: Option<NumberIndex>,
 }
 
 impl Model for Images {
     ghost use Rattle.std.specs.FinMap as map;
-    ghost use Rattle.std.specs.Prelude.{◌++◌};
+    ghost use Rattle.std.specs.Prelude.{IfSome, ◌++◌};
     ghost use Rattle.std.specs.List.Sorted.{IsSorted, IsSortedByKey};
     ghost use Rattle.std.specs.Ordering.{nat_cmp};
     ghost use Rattle.qc_arena.specs.Entries.{IsOnce, all_new, entry_number};
+    ghost use Rattle.qc_arena.specs.Index.{IsIndexOf};
     ghost use Rattle.qc_arena.specs.Map.{ImageMap, images_code};
 
     ghost Value = { ImageMap };
@@ -50,7 +55,8 @@ impl Model for Images {
 
     ghost invariant = { λ i. IsOnce (i.changed.items ++ all_new i.added.items)
         × IsSortedByKey entry_number nat_cmp i.changed.items
-        × IsSorted nat_cmp i.added.items };
+        × IsSorted nat_cmp i.added.items
+        × IfSome i.index (λ index. IsIndexOf index i.changed.items i.added.items) };
 }
 
 impl Images {
@@ -61,14 +67,23 @@ impl Images {
         requires added { IsSorted nat_cmp added.items }
         ensures { result ≡ map.from_entries (changed.items ++ all_new added.items) }
     {
-        Images { changed, added }
+        let index = NumberIndex::of(&changed, &added).ok();
+        Images {
+            changed,
+            added,
+            index,
+        }
     }
 
-    /// The before-image of a number, by two binary searches.
+    /// The before-image of a number. Most numbers that have none are known by one bit. Others are
+    /// searched for.
     pub fn look(&self, node: NodeNo) -> Look<'_>
         ensures { look_of_image result ≡ map.get self.now node.0 }
     {
-        if let Some(at) = place_of(&self.changed, node.0) {
+        if !may_have(&self.index, node.0) {
+            return Look::Same;
+        }
+        if let Some(at) = place_of(&self.index, &self.changed, node.0) {
             let (_, image) = &self.changed[at];
             return match image.record() {
                 Some(record) => Look::Was(record),
@@ -115,8 +130,34 @@ impl Images {
     }
 }
 
+// Whether a number may have an entry.
+fn may_have(index: &Option<NumberIndex>, node: u32) -> bool
+    requires { IfSome index.now (λ index. 0 < length index.marks.words.items) }
+    ensures { result ≡ false → IsSome index.now
+        × IfSome index.now (λ index. is_marked index.marks.words.items node ≡ false) }
+{
+    match index {
+        Some(index) => index.marks.may_have(node),
+        None => true,
+    }
+}
+
+// The place of a number among sorted numbers.
+fn place_of_number(numbers: &Vec<u32>, node: u32) -> Option<usize>
+    requires { IsSorted nat_cmp numbers.now.items }
+    ensures within { IfSome result (λ k. k < length numbers.now.items) }
+    ensures some { IfSome result (λ k. (d : ℕ) → slice_index_or numbers.now.items k d ≡ node) }
+    ensures none { IfNone result ((k d : ℕ) → k < length numbers.now.items
+        → slice_index_or numbers.now.items k d ≢ node) }
+{
+    match numbers.binary_search(&node) {
+        Ok(at) => Some(at),
+        Err(_) => None,
+    }
+}
+
 // The place of a number among sorted entries.
-fn place_of(changed: &Vec<(u32, Image)>, node: u32) -> Option<usize>
+fn place_of_entry(changed: &Vec<(u32, Image)>, node: u32) -> Option<usize>
     requires { IsSortedByKey entry_number nat_cmp changed.now.items }
     ensures within { IfSome result (λ k. k < length changed.now.items) }
     ensures some { IfSome result (λ k. (d : _)
@@ -126,5 +167,21 @@ fn place_of(changed: &Vec<(u32, Image)>, node: u32) -> Option<usize>
     match changed.binary_search_by_key(&node, |entry| entry.0) {
         Ok(at) => Some(at),
         Err(_) => None,
+    }
+}
+
+// The same, by the index if there is one.
+fn place_of(index: &Option<NumberIndex>, changed: &Vec<(u32, Image)>, node: u32) -> Option<usize>
+    requires sorted { IsSortedByKey entry_number nat_cmp changed.now.items }
+    requires numbers { IfSome index.now (λ index. index.numbers.items
+        ≡ map entry_number changed.now.items) }
+    ensures within { IfSome result (λ k. k < length changed.now.items) }
+    ensures some { IfSome result (λ k. (d : _)
+        → entry_number (slice_index_or changed.now.items k d) ≡ node) }
+    ensures none { IfNone result (lookup (nat_eq node) changed.now.items ≡ None) }
+{
+    match index {
+        Some(index) => place_of_number(&index.numbers, node),
+        None => place_of_entry(changed, node),
     }
 }

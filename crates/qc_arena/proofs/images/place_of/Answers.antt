@@ -1,21 +1,30 @@
-use Rattle.std.proofs.Common.{rules, ◌∙◌, ap, sym, subst, get_or, nat_cmp, nat_eq}
-use Rattle.std.proofs.lemmas.List.Sorted.{answers_always}
-use Rattle.std.specs.List.Sorted.{IsSortedByKey}
-use Rattle.std.specs.Map.{lookup}
+use Rattle.std.proofs.Common.{List, get_or, length, map, nat_cmp, subst, sym, ℕ, ◌<◌, ◌≡◌, ◌≢◌}
+use Rattle.std.specs.List.Sorted.{IsSorted}
+use Rattle.std.specs.Option.{IfNone, IfSome}
 use Rattle.qc_arena.specs.Entries.{entry_number}
-use Rattle.qc_arena.proofs.Looked.{none_at, search_found, search_missed}
+use Rattle.qc_arena.proofs.Looked.{not_found, number_found, sorted_numbers}
 use Rattle.qc_arena.proofs.images.place_of.Goals as goal
 
-pub returns-in-Ok-clause-some : goal.returns-in-Ok-clause-some
-returns-in-Ok-clause-some c = λ d.
-    let by_key = c.in-Ok.ensures.position entry_number (answers_always _ _ _ (λ f a r g h. search rules)) in
-    ap (λ xs. entry_number (get_or xs c.in-Ok.at d)) (sym c.deref.ensures.value)
-    ∙ search_found entry_number c.args.node c.deref.result.now c.in-Ok.at d by_key
+pub place_of_number-requires : goal.place_of_number-requires
+place_of_number-requires c =
+    let entries = c.args.changed.now.items in
+    let same = subst (λ o. IfSome o (λ i. i.numbers.items ≡ map entry_number entries)) c.in-Some.is c.requires.numbers in
+    subst (IsSorted nat_cmp) (sym same) (sorted_numbers entries c.requires.sorted)
 
-pub returns-in-Err-clause-none : goal.returns-in-Err-clause-none
-returns-in-Err-clause-none c =
-    let by_key = c.in-Err.ensures.position entry_number (answers_always _ _ _ (λ f a r g h. search rules)) in
-    let sorted = subst (IsSortedByKey entry_number nat_cmp) (sym c.deref.ensures.value) c.requires in
-    ap (λ xs. lookup (nat_eq c.args.node) xs) (sym c.deref.ensures.value)
-    ∙ none_at c.args.node c.deref.result.now
-    (search_missed entry_number c.args.node c.deref.result.now c.in-Err.field-0 sorted by_key)
+pub returns-in-Some-clause-some : goal.returns-in-Some-clause-some
+returns-in-Some-clause-some c =
+    let entries = c.args.changed.now.items in
+    let found = c.place_of_number.result in
+    let same = subst (λ o. IfSome o (λ i. i.numbers.items ≡ map entry_number entries)) c.in-Some.is c.requires.numbers in
+    number_found c.args.node entries found
+    (subst (λ (ns : List ℕ). IfSome found (λ k. k < length ns)) same c.place_of_number.ensures.within)
+    (subst (λ (ns : List ℕ). IfSome found (λ k. (d : ℕ) → get_or ns k d ≡ c.args.node)) same c.place_of_number.ensures.some)
+
+pub returns-in-Some-clause-none : goal.returns-in-Some-clause-none
+returns-in-Some-clause-none c =
+    let entries = c.args.changed.now.items in
+    let found = c.place_of_number.result in
+    let same = subst (λ o. IfSome o (λ i. i.numbers.items ≡ map entry_number entries)) c.in-Some.is c.requires.numbers in
+    not_found c.args.node entries found
+    (subst (λ (ns : List ℕ). IfNone found ((k d : ℕ) → k < length ns → get_or ns k d ≢ c.args.node)) same
+    c.place_of_number.ensures.none)

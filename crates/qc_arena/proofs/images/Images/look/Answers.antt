@@ -1,6 +1,7 @@
 use Rattle.std.proofs.Common.{◌∙◌, Some, ap, sym}
 use Rattle.qc_arena.specs.Entries.{all_new, entry_number}
 use Rattle.qc_arena.proofs.Looked.{look_before, look_after, looked, once_before, one_at}
+use Rattle.qc_arena.proofs.MarkedNumbers.{none_marked}
 use Rattle.qc_arena.proofs.images.Images.look.Goals as goal
 
 pub returns-in-Some-record : goal.returns-in-Some-record
@@ -36,3 +37,9 @@ returns c =
     looked c.args.self.now _ c.args.node.0 _ c.self.view_is
     (look_after c.args.node.0 m.changed.items (all_new m.added.items) c.in_default.ensures.none
     ∙ c.if-has.ensures)
+
+pub returns-then-not-may_have : goal.returns-then-not-may_have
+returns-then-not-may_have c =
+    let m = c.self.inside in
+    looked c.args.self.now _ c.args.node.0 _ c.self.view_is
+    (none_marked m.index c.args.node.0 m.changed.items m.added.items c.self.invariant.3 (c.may_have.ensures c.if-not-may_have.true))
