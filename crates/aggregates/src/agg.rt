@@ -20,7 +20,7 @@ pub struct Agg {
 }
 
 impl Agg {
-    ghost use Rattle.std.specs.Prelude.{◌≡◌, ◌+◌, ◌<◌, ◌≤◌, length, nat_abs, All};
+    ghost use Rattle.std.specs.Prelude.{◌≡◌, ◌+◌, ◌<◌, ◌≤◌, length, nat_abs, pos, replicate, All};
     ghost use Rattle.aggregates.specs.Rows.{agg_of_row};
     ghost use Rattle.aggregates.specs.Views.{agg_in};
     ghost use Rattle.cube_laws.specs.Total.{combine};
@@ -28,6 +28,7 @@ impl Agg {
     /// The aggregate of one row whose amounts are zero.
     pub fn zero(measures: u8) -> Agg
         requires few { measures ≤ MAX_MEASURES }
+        ensures aggregate { agg_in result ≡ agg_of_row (replicate measures (pos 0)) }
         ensures measures { result.measures ≡ measures }
     {
         Agg {
