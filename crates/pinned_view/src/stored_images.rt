@@ -41,9 +41,9 @@ pub(crate) fn reserve_one(kept: &mut Vec<Images>, pins: &Vec<Pin>) -> Result<(),
 }
 
 // Whether the images after a place may be merged into those at it. They may if no version reads
-// from between them, and if those at it aren't much larger. If a version reads from after both, both
-// get no more images, so one merge serves all later reads. Then those at it may be larger. So each
-// number is moved a few times, and the lists stay few.
+// from between them, and if those at it aren't much larger. If a version reads from after both,
+// neither gets more images, so one merge serves all later reads. Then those at it may be larger.
+// So each number is moved a few times, and the lists stay few.
 fn may_merge(kept: &Vec<Images>, pins: &Vec<Pin>, at: usize) -> bool
     requires { suc at < length kept.now.items }
     ensures apart { result ≡ true → reads_from pins.now.items (suc at) ≡ false }

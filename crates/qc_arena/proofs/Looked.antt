@@ -1,6 +1,7 @@
 -- Images sorted by their numbers, and looked up.
 use Rattle.std.proofs.Common.{is_some, length-append, ◌+◌, ◌≡◌, ◌≢◌, ◌∙◌, ℕ, zero, suc, ◌<◌, Bool, true, false, cond, Option, Some, None}
-use Rattle.std.proofs.Common.{List, [], ◌∷◌, ◌++◌, Ok, Err, length, map, get_or, nat_eq, nat_cmp, refl, sym, ap, ap₂, subst, arith, is_lt, inl, inr}
+use Rattle.std.proofs.Common.{List, [], ◌∷◌, ◌++◌, Ok, Err, length, map, get_or, nat_eq, nat_cmp}
+use Rattle.std.proofs.Common.{refl, sym, ap, ap₂, subst, arith, is_lt, inl, inr}
 use Rattle.std.specs.FinMap as map
 use Rattle.std.proofs.lemmas.List.{get_or-map, length-map}
 use Rattle.std.specs.Cmp.{nat_cmp_total}

@@ -47,8 +47,8 @@ fn narrow_tree<L: Ledger>(
 )
     requires closed { is_open tree.old ≡ false }
     requires some { 1 < tree.old.width }
-    requires moved { (before : Tree ℕ) × (old : List numbers.NodeNo) × HaveChildren (tree.old.width - 1)
-        count before tree.old.now old classes.old.items }
+    requires moved { (before : Tree ℕ) × (old : List numbers.NodeNo)
+        × HaveChildren (tree.old.width - 1) count before tree.old.now old classes.old.items }
     ensures back { (before : Tree ℕ) (old : List numbers.NodeNo) →
         HaveChildren (tree.old.width - 1) count before tree.old.now old classes.old.items
         → tree.new.now ≡ before }
