@@ -1,10 +1,10 @@
 -- What a record that is kept of a node means, and what holds of it.
-use Rattle.std.specs.Prelude.{◌≡◌, ◌≢◌, ℕ, ◌≤◌, List, [], ◌∷◌, Bool, true, Option, Some, None, length, nat_eq, nat_lt, if◌then◌else◌}
+use Rattle.std.specs.Prelude.{◌≡◌, ◌≢◌, ℕ, ◌≤◌, List, [], ◌∷◌, Bool, Option, Some, None, length, nat_eq, nat_lt, if◌then◌else◌}
 use Rattle.cube_defs.specs.Tree.{Edge}
 use Rattle.aggregates.specs.declared.agg.Agg.{Agg}
 use Rattle.tree_laws.specs.Walk.{last_label}
-use Rattle.qc_arena.specs.declared.edges.StoredEdge.{StoredEdge}
-use Rattle.qc_arena.specs.Edges.{code_of, edge_to, is_small}
+use Rattle.qc_arena.specs.declared.edge.StoredEdge.{StoredEdge}
+use Rattle.qc_arena.specs.Edges.{code_of, edge_to}
 use Rattle.qc_arena.specs.NodeRecord.{IsHeading, IsTrail, cell_on, label_in}
 
 -- the forced child, if there is one
@@ -19,12 +19,10 @@ edges_by list first = if nat_eq list 4294967294 then edge_to first ∷ [] else [
 abbrev pub place_by : ℕ → Option ℕ
 place_by list = if nat_lt list 4294967294 then Some list else None
 
--- the last label is that of the trail, the heading that of the class, and codes are small
-pub record IsKeptRecord (trail : List (ℕ × ℕ)) (noted : List (ℕ × Agg)) (up first : StoredEdge) (count measures : ℕ) : Type 0 where
+-- the last label is that of the trail, the heading that of the class
+pub record IsKeptRecord (trail : List (ℕ × ℕ)) (noted : List (ℕ × Agg)) (up : StoredEdge) (count measures : ℕ) : Type 0 where
   pub heading : IsHeading noted count measures
   pub end : last_label (cell_on trail) ≡ label_in up.dim (code_of up)
-  pub small_up : is_small (edge_to up) ≡ true
-  pub small_first : is_small (edge_to first) ≡ true
   pub few_dims : length (cell_on trail) ≤ 255
   pub begun : trail ≢ []
   pub within : IsTrail trail

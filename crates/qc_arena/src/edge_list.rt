@@ -8,7 +8,8 @@ ghost use Rattle.qc_arena.specs.Edges.{drop_label, edge_in, put_edge, rises};
 ghost use Rattle.qc_arena.specs.RecordReaders.{label_lt, number};
 
 use crate::Memory;
-use crate::edges::{Edges, PlainEdge, StoredEdge, count, put, take, target_in};
+use crate::edge::{PlainEdge, StoredEdge};
+use crate::edges::{Edges, count, put, take, target_in};
 use cell_core::{Code, NodeNo};
 use smallvec::SmallVec;
 use std::alloc::Global;
@@ -21,11 +22,11 @@ pub(crate) struct EdgeList {
 }
 
 impl Model for EdgeList {
-    ghost use Rattle.std.specs.Prelude.{List, ℕ};
+    ghost use Rattle.std.specs.Prelude.{List, true, ℕ, ◌≡◌};
     ghost use Rattle.std.specs.Coded.{coded_list};
     ghost use Rattle.cube_defs.specs.Tree.{Edge};
     ghost use Rattle.qc_arena.specs.Codes.{edge_code};
-    ghost use Rattle.qc_arena.specs.Edges.{AreEdges, edges_to};
+    ghost use Rattle.qc_arena.specs.Edges.{edges_to, rises};
 
     ghost Value = { List (Edge ℕ ℕ) };
 
@@ -33,7 +34,7 @@ impl Model for EdgeList {
 
     ghost view = { λ l. edges_to l.edges.items };
 
-    ghost invariant = { λ l. AreEdges (edges_to l.edges.items) };
+    ghost invariant = { λ l. rises (edges_to l.edges.items) ≡ true };
 }
 
 impl EdgeList {
@@ -48,7 +49,6 @@ impl EdgeList {
 
     // One edge. Takes no memory, since five edges fit into the list itself.
     pub(crate) fn one(alloc: Global, edge: PlainEdge) -> EdgeList
-        requires { IsCode edge.code }
         ensures { result ≡ edge_in edge ∷ [] }
     {
         let mut edges = SmallVec::new(alloc);
@@ -58,9 +58,7 @@ impl EdgeList {
 
     // Two edges in the order of their labels. Takes no memory, either.
     pub(crate) fn two(alloc: Global, first: PlainEdge, second: PlainEdge) -> EdgeList
-        requires first { IsCode first.code }
-        requires second { IsCode second.code }
-        requires order { label_lt (edge_in first) (edge_in second) ≡ true }
+        requires { label_lt (edge_in first) (edge_in second) ≡ true }
         ensures { result ≡ edge_in first ∷ edge_in second ∷ [] }
     {
         let mut edges = SmallVec::new(alloc);
@@ -82,7 +80,6 @@ impl EdgeList {
     // edges more there are.
     #[inline(always)]
     pub(crate) fn put(&mut self, edge: PlainEdge) -> Result<u32, Memory>
-        requires { IsCode edge.code }
         ensures ok { OnOk result (self.new ≡ put_edge (edge_in edge) self.old) }
         ensures more { IfOk result (λ n. length self.new ≡ length self.old + n) }
         ensures fits { OnOk result (length self.new < 4294967296) }

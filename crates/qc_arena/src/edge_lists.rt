@@ -1,13 +1,12 @@
 // Lists of edges by place.
 ghost use Rattle.std.specs.Prelude.{IfOk, IsSome, None, OnErr, OnOk, Some, [], is_some, length, ℕ, ◌+◌, ◌<◌, ◌≡◌, ◌≢◌, ◌≤◌};
-ghost use Rattle.cell_core.specs.Entry.{IsCode};
 ghost use Rattle.slab.specs.Slab as slots;
 ghost use Rattle.qc_arena.specs.EdgeLists.{list_at, list_in};
 ghost use Rattle.qc_arena.specs.Edges.{drop_label, edge_in, put_edge};
 
 use crate::Memory;
+use crate::edge::PlainEdge;
 use crate::edge_list::EdgeList;
-use crate::edges::PlainEdge;
 use cell_core::Code;
 use std::alloc::Global;
 use std::marker::Model;
@@ -47,8 +46,7 @@ impl Model for EdgeLists {
 // Adds an edge to the list that is there. Gives how many edges more there are.
 #[inline(always)]
 fn put_in(slot: &mut Option<EdgeList>, edge: PlainEdge) -> Result<u32, Memory>
-    requires there { IsSome slot.old }
-    requires code { IsCode edge.code }
+    requires { IsSome slot.old }
     ensures there { IsSome slot.new }
     ensures more { IfOk result
         (λ n. length (list_in slot.new) ≡ length (list_in slot.old) + n) }
@@ -199,8 +197,7 @@ impl EdgeLists {
     // many edges more there are.
     #[inline(always)]
     pub(crate) fn put(&mut self, place: u32, edge: PlainEdge) -> Result<u32, Memory>
-        requires there { slots.ContainsKey self.old place }
-        requires code { IsCode edge.code }
+        requires { slots.ContainsKey self.old place }
         ensures ok { OnOk result (slots.Updates self.old self.new place
             (Some (put_edge (edge_in edge) (list_at self.old place)))) }
         ensures more { IfOk result

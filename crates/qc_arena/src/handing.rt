@@ -8,6 +8,7 @@ ghost use Rattle.qc_arena.specs.Map.{bare};
 ghost use Rattle.qc_arena.specs.RecordReaders.{record_or};
 
 use crate::Memory;
+use crate::edge::PlainEdge;
 use crate::node_store::NodeStore;
 use crate::nodes::Forced;
 use cell_core::NodeNo;
@@ -73,7 +74,12 @@ pub(crate) fn hand_down_at(nodes: &mut NodeStore, node: u32, dim: u8) -> Result<
         Err(error) => return Err(error),
     };
     let had = nodes.edge_count(node);
-    match nodes.set_edge(node, dim, 0, child) {
+    let edge = PlainEdge {
+        dim,
+        code: 0,
+        target: child,
+    };
+    match nodes.set_edge(node, edge) {
         Ok(_) => {
             let has = nodes.edge_count(node);
             nodes.move_class(node, child);

@@ -7,14 +7,14 @@ ghost use Rattle.cube_defs.specs.Cell.{depth, with_value};
 ghost use Rattle.std.specs.Ordering.{eq_by_cmp, nat_cmp};
 ghost use Rattle.tree_laws.specs.Walk.{last_label, target_at};
 ghost use Rattle.qc_arena.specs.Changes.{count_in};
-ghost use Rattle.qc_arena.specs.Edges.{code_of, edge_in, edge_to, is_small, rises};
+ghost use Rattle.qc_arena.specs.Edges.{code_of, edge_in, edge_to, rises};
 ghost use Rattle.qc_arena.specs.KeptSlot.{CanForce, with_edges};
 ghost use Rattle.qc_arena.specs.NodeRecord.{IsTrail, cell_on, label_in, parent_in};
 ghost use Rattle.qc_arena.specs.Map.{bare, with_class, with_forced};
 ghost use Rattle.qc_arena.specs.Resized.{resized};
 ghost use Rattle.qc_arena.specs.RecordReaders.{edge_of, label_lt, number};
 
-use crate::edges::{PlainEdge, StoredEdge};
+use crate::edge::{PlainEdge, StoredEdge};
 use crate::label_path::LabelPath;
 use crate::nodes::Forced;
 use aggregates::Agg;
@@ -75,33 +75,21 @@ impl Model for KeptRecord {
       is_killed = r.is_killed;
     } };
 
-    ghost invariant = { λ r. IsKeptRecord r.trail.items r.noted.items r.up r.first r.count
+    ghost invariant = { λ r. IsKeptRecord r.trail.items r.noted.items r.up r.count
         r.measures };
 }
 
-// The forced child as an edge.
-fn plain(forced: Forced) -> PlainEdge
-    ensures { edge_in result ≡ edge_of forced }
+// Whether a kept edge has this label and this target.
+fn is_same(kept: StoredEdge, dim: u8, code: Code, target: u32) -> bool
+    ensures { IsTrue result → edge_to kept ≡ record { dim = dim; value = code; target = target } }
 {
-    PlainEdge {
-        dim: forced.dim,
-        code: forced.code,
-        target: forced.child.0,
-    }
-}
-
-// Whether a kept edge is this one.
-fn is_same(kept: StoredEdge, edge: PlainEdge) -> bool
-    ensures { IsTrue result → edge_to kept ≡ edge_in edge }
-{
-    kept.dim == edge.dim && kept.code() == edge.code && kept.target == edge.target
+    kept.dim == dim && kept.code() == code && kept.target == target
 }
 
 impl KeptRecord {
     // A record with these labels, and nothing else.
     fn new(trail: LabelPath<u8, u32>, up: StoredEdge) -> KeptRecord
         requires end { last_label (cell_on trail.items) ≡ label_in up.dim (code_of up) }
-        requires small { is_small (edge_to up) ≡ true }
         requires few { length (cell_on trail.items) ≤ 255 }
         requires begun { trail.items ≢ [] }
         requires within { IsTrail trail.items }
@@ -183,7 +171,7 @@ impl KeptRecord {
     // The only edge, if it lies in the record.
     pub(crate) fn only(&self) -> Option<PlainEdge>
         ensures some { IfSome result (λ e. (self.now.node.edges ≡ edge_in e ∷ [])
-            × (self.now.place ≡ None) × IsCode e.code) }
+            × (self.now.place ≡ None)) }
         ensures none { IfNone result (self.now.node.edges ≡ []) }
     {
         if self.list != ONE_EDGE {
@@ -238,7 +226,6 @@ impl KeptRecord {
     // Takes an edge as the only one, if it can: if there is no forced child, or the edge leads to
     // it, and if there are no edges yet.
     pub(crate) fn try_only(&mut self, edge: PlainEdge) -> bool
-        requires { IsCode edge.code }
         ensures taken { result ≡ true → self.new ≡ record self.old {
           node
               = with_edges (edge_in edge ∷ []) self.old.node;
@@ -250,7 +237,7 @@ impl KeptRecord {
         if self.list != NO_EDGES {
             return false;
         }
-        if self.has_forced && !is_same(self.first, edge) {
+        if self.has_forced && !is_same(self.first, edge.dim, edge.code, edge.target) {
             return false;
         }
         self.first = StoredEdge::of(edge);
@@ -265,7 +252,9 @@ impl KeptRecord {
     {
         match forced {
             None => true,
-            Some(edge) => self.list != ONE_EDGE || is_same(self.first, plain(edge)),
+            Some(edge) => {
+                self.list != ONE_EDGE || is_same(self.first, edge.dim, edge.code, edge.child.0)
+            }
         }
     }
 
@@ -279,7 +268,12 @@ impl KeptRecord {
     {
         match forced {
             Some(edge) => {
-                self.first = StoredEdge::of(plain(edge));
+                let to_child = PlainEdge {
+                    dim: edge.dim,
+                    code: edge.code,
+                    target: edge.child.0,
+                };
+                self.first = StoredEdge::of(to_child);
                 self.has_forced = true;
             }
             None => self.has_forced = false,

@@ -5,6 +5,7 @@ mod arena;
 mod class_changes;
 mod class_numbers;
 mod counted;
+mod edge;
 mod edge_list;
 mod edge_lists;
 mod edges;

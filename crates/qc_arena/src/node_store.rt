@@ -8,7 +8,7 @@ ghost use Rattle.slab.specs.Slab as slots;
 ghost use Rattle.cube_defs.specs.Cell.{depth, with_value};
 ghost use Rattle.tree_laws.specs.Walk.{last_label, target_at};
 ghost use Rattle.qc_arena.specs.Changes.{count_in};
-ghost use Rattle.qc_arena.specs.Edges.{rises, with_edge, without_edge};
+ghost use Rattle.qc_arena.specs.Edges.{edge_in, rises, with_edge, without_edge};
 ghost use Rattle.qc_arena.specs.Inside.{join};
 ghost use Rattle.qc_arena.specs.Map.{bare, with_class, with_forced};
 ghost use Rattle.qc_arena.specs.Parts.{HasRoom, IsShown, IsStored, parts_in};
@@ -16,7 +16,7 @@ ghost use Rattle.qc_arena.specs.Resized.{resized};
 ghost use Rattle.qc_arena.specs.RecordReaders.{edge_of, label_lt, number, record_or};
 
 use crate::Memory;
-use crate::edges::PlainEdge;
+use crate::edge::PlainEdge;
 use crate::image::Record;
 use crate::image_parts::ImageParts;
 use crate::kept_record::KeptRecord;
@@ -314,20 +314,12 @@ impl NodeStore {
     }
 
     // Sets an edge of a node. Gives how many edges more there are.
-    pub(crate) fn set_edge(
-        &mut self,
-        node: u32,
-        dim: u8,
-        code: Code,
-        target: u32,
-    ) -> Result<u32, Memory>
-        requires node { IsSome (join (slots.get self.old node)) }
-        requires code { IsCode code }
+    pub(crate) fn set_edge(&mut self, node: u32, edge: PlainEdge) -> Result<u32, Memory>
+        requires { IsSome (join (slots.get self.old node)) }
         ensures others { (q : ℕ) → q ≢ node → slots.get self.new q ≡ slots.get self.old q }
         ensures here { IsSome (join (slots.get self.new node)) }
         ensures ok { OnOk result
-            (join (slots.get self.new node) ≡ option_map
-            (with_edge (record { dim = dim; value = code; target = target }))
+            (join (slots.get self.new node) ≡ option_map (with_edge (edge_in edge))
             (join (slots.get self.old node))) }
         ensures more { IfOk result
             (λ n. length (record_or (join (slots.get self.new node))).edges
@@ -337,7 +329,7 @@ impl NodeStore {
         ensures err { OnErr result
             (join (slots.get self.new node) ≡ join (slots.get self.old node)) }
     {
-        self.records.set_edge(node, PlainEdge { dim, code, target })
+        self.records.set_edge(node, edge)
     }
 
     // Makes room for so many more edges of a node.

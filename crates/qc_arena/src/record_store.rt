@@ -16,9 +16,9 @@ ghost use Rattle.qc_arena.specs.Resized.{resized};
 ghost use Rattle.qc_arena.specs.RecordReaders.{edge_of, label_lt, number, record_or};
 
 use crate::Memory;
+use crate::edge::PlainEdge;
 use crate::edge_list::EdgeList;
 use crate::edge_lists::EdgeLists;
-use crate::edges::PlainEdge;
 use crate::kept_record::KeptRecord;
 use crate::nodes::Forced;
 use aggregates::Agg;
@@ -121,7 +121,6 @@ fn drop_edges(records: &mut Slab<KeptRecord>, lists: &mut EdgeLists, node: u32)
 
 // The edges of a record that keeps them itself, with one more, or with another target at its label.
 fn own_with(alloc: Global, kept: &KeptRecord, edge: PlainEdge) -> EdgeList
-    requires { IsCode edge.code }
     ensures edges { result ≡ put_edge (edge_in edge) kept.now.node.edges }
     ensures grows { length kept.now.node.edges ≤ length result }
 {
@@ -143,17 +142,14 @@ fn put_own(
     records: &mut Slab<KeptRecord>,
     lists: &mut EdgeLists,
     node: u32,
-    dim: u8,
-    code: Code,
-    target: u32,
+    edge: PlainEdge,
 ) -> (u32, u32)
     requires node { IsSome (join (slots.get (nodes_of records.old lists.old) node)) }
     requires unlisted { IfSome (slots.get records.old node) (λ h. h.place ≡ None) }
-    requires code { IsCode code }
     requires listed { AreListed records.old lists.old }
     ensures listed { AreListed records.new lists.new }
     ensures here { slots.get (nodes_of records.new lists.new) node
-        ≡ option_map (option_map (with_edge (record { dim = dim; value = code; target = target })))
+        ≡ option_map (option_map (with_edge (edge_in edge)))
         (slots.get (nodes_of records.old lists.old) node) }
     ensures had { result.0 ≡ length (record_or
         (join (slots.get (nodes_of records.old lists.old) node))).edges }
@@ -163,7 +159,6 @@ fn put_own(
     ensures others { (q : ℕ) → q ≢ node → slots.get (nodes_of records.new lists.new) q
         ≡ slots.get (nodes_of records.old lists.old) q }
 {
-    let edge = PlainEdge { dim, code, target };
     if records[node as usize].try_only(edge) {
         return (0, 1);
     }
@@ -183,7 +178,6 @@ fn put_at(
     edge: PlainEdge,
 ) -> Result<u32, Memory>
     requires node { IsSome (join (slots.get (nodes_of records.old lists.old) node)) }
-    requires code { IsCode edge.code }
     requires listed { AreListed records.old lists.old }
     ensures listed { AreListed records.new lists.new }
     ensures ok { OnOk result (slots.get (nodes_of records.new lists.new) node
@@ -202,7 +196,7 @@ fn put_at(
     match records[node as usize].place() {
         Some(place) => lists.put(place, edge),
         None => {
-            let (had, has) = put_own(records, lists, node, edge.dim, edge.code, edge.target);
+            let (had, has) = put_own(records, lists, node, edge);
             Ok(has - had)
         }
     }
@@ -226,7 +220,12 @@ fn give_edges(records: &mut Slab<KeptRecord>, lists: &mut EdgeLists, node: u32, 
         0 => {}
         1 => {
             let (dim, code, child) = list.at(0);
-            put_own(records, lists, node, dim, code, child.0);
+            let edge = PlainEdge {
+                dim,
+                code,
+                target: child.0,
+            };
+            put_own(records, lists, node, edge);
         }
         _ => store_list(records, lists, node, list),
     }
@@ -643,8 +642,7 @@ impl RecordStore {
     // Adds an edge, or gives the edge with its label a new target. Gives how many edges more
     // there are.
     pub(crate) fn set_edge(&mut self, node: u32, edge: PlainEdge) -> Result<u32, Memory>
-        requires node { IsSome (join (slots.get self.old node)) }
-        requires code { IsCode edge.code }
+        requires { IsSome (join (slots.get self.old node)) }
         ensures ok { OnOk result
             (join (slots.get self.new node) ≡ option_map (with_edge (edge_in edge))
             (join (slots.get self.old node))) }

@@ -1,13 +1,12 @@
 use Rattle.std.proofs.Common.{◌≡◌, ◌<◌, ◌≤◌, ℕ, ap, ◌∙◌, arith, sym, get_or, length, true, false, set, length-set, List, subst, rules}
-use Rattle.std.specs.List.{list_all}
 use Rattle.cube_defs.specs.Tree.{Edge}
 use Rattle.std.proofs.lemmas.Grind.{common_steps}
 use Rattle.smallvec.proofs.SmallVecLemmas.{items-with_items}
-use Rattle.qc_arena.specs.declared.edges.StoredEdge.{StoredEdge}
-use Rattle.qc_arena.specs.Edges.{edge_in, edge_to, edges_to, is_small, rises, same_label}
+use Rattle.qc_arena.specs.declared.edge.StoredEdge.{StoredEdge}
+use Rattle.qc_arena.specs.Edges.{edge_in, edge_to, edges_to, rises, same_label}
 use Rattle.qc_arena.specs.RecordReaders.{label_lt}
 use Rattle.qc_arena.proofs.Halving.{blank}
-use Rattle.qc_arena.proofs.Labels.{put_insert, put_set, rises-put, all_put}
+use Rattle.qc_arena.proofs.Labels.{put_insert, put_set, rises-put}
 use Rattle.qc_arena.proofs.edges.put_within.Goals as goal
 
 pub returns-then-is_at : goal.returns-then-is_at
@@ -29,16 +28,12 @@ returns-then-is_at c =
     let written = items-with_items c.args.edges.now _ (ap length wrote ∙ length-set xs k s) ∙ wrote in
     let put =
     ap edges_to written
-    ∙ sym (put_set (edge_in e) s xs k blank c.of-stored.ensures.is at passed (stops blank at)
+    ∙ sym (put_set (edge_in e) s xs k blank c.of-stored.ensures at passed (stops blank at)
     (is blank at ∙ c.if-is_at.true)) in
     record {
       ok = put;
       rising = subst (λ (l : List (Edge ℕ ℕ)). rises l ≡ true) (sym put)
-          (rises-put (edge_in e) (edges_to xs) c.requires.rising);
-      small = subst (λ (l : List (Edge ℕ ℕ)). list_all is_small l ≡ true) (sym put)
-          (all_put is_small (edge_in e) (edges_to xs)
-          (subst (λ (x : Edge ℕ ℕ). is_small x ≡ true) c.of-stored.ensures.is c.of-stored.ensures.small)
-          c.requires.small);
+          (rises-put (edge_in e) (edges_to xs) c.requires);
       more = let long = ap length written ∙ length-set xs k s in omega (arith, long);
       err = search rules;
     }
@@ -61,16 +56,12 @@ returns-in-Ok c =
     c.place_of-place.ensures.within in
     let put =
     ap edges_to c.in-Ok.ensures.ok
-    ∙ sym (put_insert (edge_in e) s xs k blank c.of-stored.ensures.is within passed (stops blank)
+    ∙ sym (put_insert (edge_in e) s xs k blank c.of-stored.ensures within passed (stops blank)
     (λ l. is blank l ∙ c.if-is_at.false)) in
     record {
       ok = put;
       rising = subst (λ (l : List (Edge ℕ ℕ)). rises l ≡ true) (sym put)
-          (rises-put (edge_in e) (edges_to xs) c.requires.rising);
-      small = subst (λ (l : List (Edge ℕ ℕ)). list_all is_small l ≡ true) (sym put)
-          (all_put is_small (edge_in e) (edges_to xs)
-          (subst (λ (x : Edge ℕ ℕ). is_small x ≡ true) c.of-stored.ensures.is c.of-stored.ensures.small)
-          c.requires.small);
+          (rises-put (edge_in e) (edges_to xs) c.requires);
       more = omega (arith, c.in-Ok.ensures.len);
       err = search rules;
     }

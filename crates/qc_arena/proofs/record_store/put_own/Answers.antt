@@ -1,7 +1,7 @@
 use Rattle.std.proofs.Common.{◌∙◌, ℕ, List, ap, length, refl, sym}
 use Rattle.slab.specs.Slab as slots
 use Rattle.cube_defs.specs.Tree.{Edge}
-use Rattle.qc_arena.specs.Edges.{put_edge, with_edge}
+use Rattle.qc_arena.specs.Edges.{edge_in, put_edge, with_edge}
 use Rattle.qc_arena.specs.KeptSlot.{Kept, with_edges}
 use Rattle.qc_arena.specs.Records.{nodes_of}
 use Rattle.qc_arena.proofs.Listed.{kept_listed, kept_others, own_by, seen_own, there_after, write_at}
@@ -18,10 +18,10 @@ returns-then-try_only-clause-here c =
     let h = c.index_mut.result.now in
     own_by c.args.records.now c.args.lists.now c.requires.listed c.args.node h c.try_only.new.self
     c.index_mut.ensures.value (ap (λ (h : Kept). h.place) taken)
-    (with_edge (record { dim = c.args.dim; value = c.args.code; target = c.args.target }))
+    (with_edge (edge_in c.args.edge))
     (c.if-try_only.ensures.unlisted refl) (taken ∙ sym (ap (λ (es : List (Edge ℕ ℕ)). record h {
       node
-          = with_edges (put_edge (record { dim = c.args.dim; value = c.args.code; target = c.args.target }) es) h.node;
+          = with_edges (put_edge (edge_in c.args.edge) es) h.node;
     }) (c.if-try_only.ensures.free refl)))
 
 pub returns-then-try_only-clause-has : goal.returns-then-try_only-clause-has
@@ -29,7 +29,7 @@ returns-then-try_only-clause-has c =
     let taken = c.if-try_only.ensures.taken refl in
     let s = slots.with_value c.args.records.now c.args.node c.try_only.new.self in
     let there = there_after
-    (with_edge (record { dim = c.args.dim; value = c.args.code; target = c.args.target }))
+    (with_edge (edge_in c.args.edge))
     (slots.get (nodes_of s c.args.lists.now) c.args.node)
     (slots.get (nodes_of c.args.records.now c.args.lists.now) c.args.node) (returns-then-try_only-clause-here c)
     c.requires.node in

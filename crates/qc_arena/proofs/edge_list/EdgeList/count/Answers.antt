@@ -7,4 +7,4 @@ use Rattle.qc_arena.proofs.edge_list.EdgeList.count.Goals as goal
 pub returns-clause-rising : goal.returns-clause-rising
 returns-clause-rising c =
     subst (λ (es : List (Edge ℕ ℕ)). (i j : ℕ) (e f : Edge ℕ ℕ) → i < j → slice_get es i ≡ Some e
-    → slice_get es j ≡ Some f → label_lt e f ≡ true) c.self.view_is (rises_at _ c.self.invariant.rising)
+    → slice_get es j ≡ Some f → label_lt e f ≡ true) c.self.view_is (rises_at _ c.self.invariant)

@@ -6,7 +6,7 @@ use Rattle.qc_arena.proofs.edge_list.EdgeList.put.Goals as goal
 
 pub returns-clause-fits : goal.returns-clause-fits
 returns-clause-fits c =
-    let few = few_stored c.put.new.edges.items c.put.ensures.rising c.put.ensures.small in
+    let few = few_stored c.put.new.edges.items c.put.ensures.rising in
     let long = length-map c.put.new.edges.items edge_to in
     let fits : length (edges_to c.put.new.edges.items) < 4294967296 = omega (arith, few, long) in
     search (rules, fits)

@@ -23,7 +23,7 @@ new-requires-clause-end c =
     ∙ cell_on-more c.self.inside.trail.items (c.args.dim, c.args.code) c.self.invariant.begun in
     ap last_label is ∙ label-with_value cell c.args.dim c.args.code behind (omega arith)
     ∙ sym (cond-false _ _ _ (eq_apart c.args.dim 255 (omega arith)))
-    ∙ sym (ap (λ (e : Edge ℕ ℕ). label_in e.dim e.value) c.of.ensures.is)
+    ∙ sym (ap (λ (e : Edge ℕ ℕ). label_in e.dim e.value) c.of.ensures)
 
 pub new-requires-clause-few : goal.new-requires-clause-few
 new-requires-clause-few c =
@@ -53,6 +53,6 @@ returns-clause-node c =
     let is = ap cell_on c.and.ensures
     ∙ cell_on-more c.self.inside.trail.items (c.args.dim, c.args.code) c.self.invariant.begun in
     let cell = is ∙ ap (λ (x : Cell ℕ). with_value x c.args.dim c.args.code) was in
-    let parent = ap (λ (e : Edge ℕ ℕ). parent_in e.dim e.target) c.of.ensures.is
+    let parent = ap (λ (e : Edge ℕ ℕ). parent_in e.dim e.target) c.of.ensures
     ∙ cond-false _ None (Some c.args.node.0) (eq_apart c.args.dim 255 (omega arith)) in
     c.new.ensures.node ∙ λ j. bare (cell j) (parent j)

@@ -18,8 +18,6 @@ invariant_of-self c =
     record {
       heading = is.heading;
       end = ap last_label cell ∙ label-resize c.args.dims (cell_on trail) deep ∙ is.end;
-      small_up = is.small_up;
-      small_first = is.small_first;
       few_dims = let long = ap (λ (x : Cell ℕ). length x) cell ∙ length-resize c.args.dims (cell_on trail) in
           omega arith;
       begun = subst (λ (x : List (ℕ × ℕ)). x ≢ []) (sym c.behind-self-inside.ensures)
