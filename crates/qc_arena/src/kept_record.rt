@@ -230,6 +230,7 @@ impl KeptRecord {
           node
               = with_edges (edge_in edge ∷ []) self.old.node;
         } }
+        ensures place { self.new.place ≡ self.old.place }
         ensures free { result ≡ true → self.old.node.edges ≡ [] }
         ensures unlisted { result ≡ true → self.old.place ≡ None }
         ensures left { result ≡ false → self.new ≡ self.old }

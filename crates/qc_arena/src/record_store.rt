@@ -28,12 +28,22 @@ use slab::Slab;
 use std::alloc::{AllocError, Global};
 use std::marker::Model;
 
+// The records by number, and lists of edges. Each list is that of one record.
+#[derive(Drop)]
+struct ListedRecords {
+    records: Slab<KeptRecord>,
+    lists: EdgeLists,
+    ghost listed: { AreListed records lists },
+}
+
+/// So many records at most may be there, and each number is smaller. So it has 32 bits.
+const MAX_RECORDS: usize = 4_000_000_000;
+
 /// The records of nodes by number, with their edges. Up to one edge lies in the record itself. More
 /// edges lie in a list elsewhere. So a record is small, and most nodes need no list.
 #[derive(Drop)]
 pub(crate) struct RecordStore {
-    records: Slab<KeptRecord>,
-    lists: EdgeLists,
+    held: ListedRecords,
 }
 
 impl Model for RecordStore {
@@ -47,11 +57,9 @@ impl Model for RecordStore {
 
     ghost coded = { slab.slab_code (coded_option node_code) };
 
-    ghost use Rattle.qc_arena.specs.Records.{AreListed, nodes_of};
+    ghost use Rattle.qc_arena.specs.Records.{nodes_of};
 
-    ghost view = { λ s. nodes_of s.records s.lists };
-
-    ghost invariant = { λ s. AreListed s.records s.lists };
+    ghost view = { λ s. nodes_of s.held.records s.held.lists };
 }
 
 // The edges of a record that keeps them itself, as a list.
@@ -65,57 +73,51 @@ fn own_edges(alloc: Global, kept: &KeptRecord) -> EdgeList
 }
 
 // Gives a record a list in place of its own edges.
-fn store_list(records: &mut Slab<KeptRecord>, lists: &mut EdgeLists, node: u32, list: EdgeList)
-    requires node { slots.ContainsKey records.old node }
-    requires unlisted { IfSome (slots.get records.old node) (λ h. h.place ≡ None) }
-    requires listed { AreListed records.old lists.old }
-    ensures listed { AreListed records.new lists.new }
-    ensures here { slots.get (nodes_of records.new lists.new) node
+fn store_list(store: &mut ListedRecords, node: u32, list: EdgeList)
+    requires node { slots.ContainsKey store.old.records node }
+    requires unlisted { IfSome (slots.get store.old.records node) (λ h. h.place ≡ None) }
+    ensures here { slots.get (nodes_of store.new.records store.new.lists) node
         ≡ option_map (option_map (with_edges list))
-        (slots.get (nodes_of records.old lists.old) node) }
-    ensures others { (q : ℕ) → q ≢ node → slots.get (nodes_of records.new lists.new) q
-        ≡ slots.get (nodes_of records.old lists.old) q }
-    ensures bare { IfSome (slots.get records.new node) (λ h. h.node.edges ≡ []) }
-    ensures there { slots.ContainsKey records.new node }
+        (slots.get (nodes_of store.old.records store.old.lists) node) }
+    ensures others { (q : ℕ) → q ≢ node → slots.get (nodes_of store.new.records store.new.lists) q
+        ≡ slots.get (nodes_of store.old.records store.old.lists) q }
+    ensures bare { IfSome (slots.get store.new.records node) (λ h. h.node.edges ≡ []) }
+    ensures there { slots.ContainsKey store.new.records node }
 {
-    let place = lists.insert(list);
-    records[node as usize].set_place(place);
+    let place = store.lists.insert(list);
+    store.records[node as usize].set_place(place);
 }
 
 // Removes the edges of a record whose list is at this place.
-fn drop_list(records: &mut Slab<KeptRecord>, lists: &mut EdgeLists, node: u32, place: u32)
-    requires node { slots.ContainsKey records.old node }
-    requires place { IfSome (slots.get records.old node) (λ h. h.place ≡ Some place) }
-    requires listed { AreListed records.old lists.old }
-    ensures listed { AreListed records.new lists.new }
-    ensures here { slots.get (nodes_of records.new lists.new) node
+fn drop_list(store: &mut ListedRecords, node: u32, place: u32)
+    requires node { slots.ContainsKey store.old.records node }
+    requires place { IfSome (slots.get store.old.records node) (λ h. h.place ≡ Some place) }
+    ensures here { slots.get (nodes_of store.new.records store.new.lists) node
         ≡ option_map (option_map (with_edges []))
-        (slots.get (nodes_of records.old lists.old) node) }
-    ensures others { (q : ℕ) → q ≢ node → slots.get (nodes_of records.new lists.new) q
-        ≡ slots.get (nodes_of records.old lists.old) q }
-    ensures unlisted { IfSome (slots.get records.new node) (λ h. h.place ≡ None) }
-    ensures there { slots.ContainsKey records.new node }
+        (slots.get (nodes_of store.old.records store.old.lists) node) }
+    ensures others { (q : ℕ) → q ≢ node → slots.get (nodes_of store.new.records store.new.lists) q
+        ≡ slots.get (nodes_of store.old.records store.old.lists) q }
+    ensures unlisted { IfSome (slots.get store.new.records node) (λ h. h.place ≡ None) }
+    ensures there { slots.ContainsKey store.new.records node }
 {
-    drop(lists.remove(place));
-    records[node as usize].clear_edges();
+    drop(store.lists.remove(place));
+    store.records[node as usize].clear_edges();
 }
 
 // Removes the edges of a record, and its list.
-fn drop_edges(records: &mut Slab<KeptRecord>, lists: &mut EdgeLists, node: u32)
-    requires node { slots.ContainsKey records.old node }
-    requires listed { AreListed records.old lists.old }
-    ensures listed { AreListed records.new lists.new }
-    ensures here { slots.get (nodes_of records.new lists.new) node
+fn drop_edges(store: &mut ListedRecords, node: u32)
+    requires { slots.ContainsKey store.old.records node }
+    ensures here { slots.get (nodes_of store.new.records store.new.lists) node
         ≡ option_map (option_map (with_edges []))
-        (slots.get (nodes_of records.old lists.old) node) }
-    ensures others { (q : ℕ) → q ≢ node → slots.get (nodes_of records.new lists.new) q
-        ≡ slots.get (nodes_of records.old lists.old) q }
-    ensures unlisted { IfSome (slots.get records.new node) (λ h. h.place ≡ None) }
-    ensures there { slots.ContainsKey records.new node }
+        (slots.get (nodes_of store.old.records store.old.lists) node) }
+    ensures others { (q : ℕ) → q ≢ node → slots.get (nodes_of store.new.records store.new.lists) q
+        ≡ slots.get (nodes_of store.old.records store.old.lists) q }
+    ensures unlisted { IfSome (slots.get store.new.records node) (λ h. h.place ≡ None) }
+    ensures there { slots.ContainsKey store.new.records node }
 {
-    match records[node as usize].place() {
-        Some(place) => drop_list(records, lists, node, place),
-        None => records[node as usize].clear_edges(),
+    match store.records[node as usize].place() {
+        Some(place) => drop_list(store, node, place),
+        None => store.records[node as usize].clear_edges(),
     }
 }
 
@@ -138,83 +140,67 @@ fn own_with(alloc: Global, kept: &KeptRecord, edge: PlainEdge) -> EdgeList
 
 // Adds an edge to a record that has no list, or gives its edge a new target. Gives the number of
 // edges before and after.
-fn put_own(
-    records: &mut Slab<KeptRecord>,
-    lists: &mut EdgeLists,
-    node: u32,
-    edge: PlainEdge,
-) -> (u32, u32)
-    requires node { IsSome (join (slots.get (nodes_of records.old lists.old) node)) }
-    requires unlisted { IfSome (slots.get records.old node) (λ h. h.place ≡ None) }
-    requires listed { AreListed records.old lists.old }
-    ensures listed { AreListed records.new lists.new }
-    ensures here { slots.get (nodes_of records.new lists.new) node
+fn put_own(store: &mut ListedRecords, node: u32, edge: PlainEdge) -> (u32, u32)
+    requires node { IsSome (join (slots.get (nodes_of store.old.records store.old.lists) node)) }
+    requires unlisted { IfSome (slots.get store.old.records node) (λ h. h.place ≡ None) }
+    ensures here { slots.get (nodes_of store.new.records store.new.lists) node
         ≡ option_map (option_map (with_edge (edge_in edge)))
-        (slots.get (nodes_of records.old lists.old) node) }
+        (slots.get (nodes_of store.old.records store.old.lists) node) }
     ensures had { result.0 ≡ length (record_or
-        (join (slots.get (nodes_of records.old lists.old) node))).edges }
+        (join (slots.get (nodes_of store.old.records store.old.lists) node))).edges }
     ensures has { result.1 ≡ length (record_or
-        (join (slots.get (nodes_of records.new lists.new) node))).edges }
+        (join (slots.get (nodes_of store.new.records store.new.lists) node))).edges }
     ensures grows { result.0 ≤ result.1 }
-    ensures others { (q : ℕ) → q ≢ node → slots.get (nodes_of records.new lists.new) q
-        ≡ slots.get (nodes_of records.old lists.old) q }
+    ensures others { (q : ℕ) → q ≢ node → slots.get (nodes_of store.new.records store.new.lists) q
+        ≡ slots.get (nodes_of store.old.records store.old.lists) q }
 {
-    if records[node as usize].try_only(edge) {
+    if store.records[node as usize].try_only(edge) {
         return (0, 1);
     }
-    let list = own_with(lists.allocator(), &records[node as usize], edge);
-    let had = records[node as usize].own_count();
+    let list = own_with(store.lists.allocator(), &store.records[node as usize], edge);
+    let had = store.records[node as usize].own_count();
     let has = list.count();
-    store_list(records, lists, node, list);
+    store_list(store, node, list);
     (had, has)
 }
 
 // Adds an edge to a record, or gives the edge that has its label a new target. Gives how
 // many edges more there are.
-fn put_at(
-    records: &mut Slab<KeptRecord>,
-    lists: &mut EdgeLists,
-    node: u32,
-    edge: PlainEdge,
-) -> Result<u32, Memory>
-    requires node { IsSome (join (slots.get (nodes_of records.old lists.old) node)) }
-    requires listed { AreListed records.old lists.old }
-    ensures listed { AreListed records.new lists.new }
-    ensures ok { OnOk result (slots.get (nodes_of records.new lists.new) node
+fn put_at(store: &mut ListedRecords, node: u32, edge: PlainEdge) -> Result<u32, Memory>
+    requires { IsSome (join (slots.get (nodes_of store.old.records store.old.lists) node)) }
+    ensures ok { OnOk result (slots.get (nodes_of store.new.records store.new.lists) node
         ≡ option_map (option_map (with_edge (edge_in edge)))
-        (slots.get (nodes_of records.old lists.old) node)) }
+        (slots.get (nodes_of store.old.records store.old.lists) node)) }
     ensures more { IfOk result (λ n. length (record_or
-        (join (slots.get (nodes_of records.new lists.new) node))).edges
-        ≡ length (record_or (join (slots.get (nodes_of records.old lists.old) node))).edges + n) }
+        (join (slots.get (nodes_of store.new.records store.new.lists) node))).edges
+        ≡ length (record_or (join (slots.get (nodes_of store.old.records store.old.lists) node))).edges + n) }
     ensures fits { OnOk result (length (record_or
-        (join (slots.get (nodes_of records.new lists.new) node))).edges < 4294967296) }
-    ensures err { OnErr result (slots.get (nodes_of records.new lists.new) node
-        ≡ slots.get (nodes_of records.old lists.old) node) }
-    ensures others { (q : ℕ) → q ≢ node → slots.get (nodes_of records.new lists.new) q
-        ≡ slots.get (nodes_of records.old lists.old) q }
+        (join (slots.get (nodes_of store.new.records store.new.lists) node))).edges < 4294967296) }
+    ensures err { OnErr result (slots.get (nodes_of store.new.records store.new.lists) node
+        ≡ slots.get (nodes_of store.old.records store.old.lists) node) }
+    ensures others { (q : ℕ) → q ≢ node → slots.get (nodes_of store.new.records store.new.lists) q
+        ≡ slots.get (nodes_of store.old.records store.old.lists) q }
 {
-    match records[node as usize].place() {
-        Some(place) => lists.put(place, edge),
+    match store.records[node as usize].place() {
+        Some(place) => store.lists.put(place, edge),
         None => {
-            let (had, has) = put_own(records, lists, node, edge);
+            let (had, has) = put_own(store, node, edge);
             Ok(has - had)
         }
     }
 }
 
 // Gives edges to a record that has none. Up to one edge lies in the record, if it can.
-fn give_edges(records: &mut Slab<KeptRecord>, lists: &mut EdgeLists, node: u32, list: EdgeList)
-    requires node { IsSome (join (slots.get (nodes_of records.old lists.old) node)) }
+fn give_edges(store: &mut ListedRecords, node: u32, list: EdgeList)
+    requires node { IsSome (join (slots.get (nodes_of store.old.records store.old.lists) node)) }
     requires none { (record_or
-        (join (slots.get (nodes_of records.old lists.old) node))).edges ≡ [] }
-    requires unlisted { IfSome (slots.get records.old node) (λ h. h.place ≡ None) }
-    requires listed { AreListed records.old lists.old }
-    ensures listed { AreListed records.new lists.new }
-    ensures here { slots.get (nodes_of records.new lists.new) node
+        (join (slots.get (nodes_of store.old.records store.old.lists) node))).edges ≡ [] }
+    requires unlisted { IfSome (slots.get store.old.records node) (λ h. h.place ≡ None) }
+    ensures here { slots.get (nodes_of store.new.records store.new.lists) node
         ≡ option_map (option_map (with_edges list))
-        (slots.get (nodes_of records.old lists.old) node) }
-    ensures others { (q : ℕ) → q ≢ node → slots.get (nodes_of records.new lists.new) q
-        ≡ slots.get (nodes_of records.old lists.old) q }
+        (slots.get (nodes_of store.old.records store.old.lists) node) }
+    ensures others { (q : ℕ) → q ≢ node → slots.get (nodes_of store.new.records store.new.lists) q
+        ≡ slots.get (nodes_of store.old.records store.old.lists) q }
 {
     match list.count() {
         0 => {}
@@ -225,60 +211,49 @@ fn give_edges(records: &mut Slab<KeptRecord>, lists: &mut EdgeLists, node: u32, 
                 code,
                 target: child.0,
             };
-            put_own(records, lists, node, edge);
+            put_own(store, node, edge);
         }
-        _ => store_list(records, lists, node, list),
+        _ => store_list(store, node, list),
     }
 }
 
 // Gives a record that has no list one with its own edges.
-fn list_own(records: &mut Slab<KeptRecord>, lists: &mut EdgeLists, node: u32)
-    requires node { slots.ContainsKey records.old node }
-    requires unlisted { IfSome (slots.get records.old node) (λ h. h.place ≡ None) }
-    requires listed { AreListed records.old lists.old }
-    ensures listed { AreListed records.new lists.new }
-    ensures same { (q : ℕ) → slots.get (nodes_of records.new lists.new) q
-        ≡ slots.get (nodes_of records.old lists.old) q }
-    ensures there { slots.ContainsKey records.new node }
+fn list_own(store: &mut ListedRecords, node: u32)
+    requires node { slots.ContainsKey store.old.records node }
+    requires unlisted { IfSome (slots.get store.old.records node) (λ h. h.place ≡ None) }
+    ensures same { (q : ℕ) → slots.get (nodes_of store.new.records store.new.lists) q
+        ≡ slots.get (nodes_of store.old.records store.old.lists) q }
+    ensures there { slots.ContainsKey store.new.records node }
 {
-    let list = own_edges(lists.allocator(), &records[node as usize]);
-    store_list(records, lists, node, list);
+    let list = own_edges(store.lists.allocator(), &store.records[node as usize]);
+    store_list(store, node, list);
 }
 
 // Gives a record a list if it has none, and several edges are to come. One edge needs no list.
-fn make_list(records: &mut Slab<KeptRecord>, lists: &mut EdgeLists, node: u32, more: u32)
-    requires node { slots.ContainsKey records.old node }
-    requires listed { AreListed records.old lists.old }
-    ensures listed { AreListed records.new lists.new }
-    ensures same { (q : ℕ) → slots.get (nodes_of records.new lists.new) q
-        ≡ slots.get (nodes_of records.old lists.old) q }
-    ensures there { slots.ContainsKey records.new node }
+fn make_list(store: &mut ListedRecords, node: u32, more: u32)
+    requires { slots.ContainsKey store.old.records node }
+    ensures same { (q : ℕ) → slots.get (nodes_of store.new.records store.new.lists) q
+        ≡ slots.get (nodes_of store.old.records store.old.lists) q }
+    ensures there { slots.ContainsKey store.new.records node }
 {
     if more <= 1 {
         return;
     }
-    match records[node as usize].place() {
+    match store.records[node as usize].place() {
         Some(_) => {}
-        None => list_own(records, lists, node),
+        None => list_own(store, node),
     }
 }
 
 // Makes room for so many more edges of a record.
-fn reserve_at(
-    records: &mut Slab<KeptRecord>,
-    lists: &mut EdgeLists,
-    node: u32,
-    more: u32,
-) -> Result<(), Memory>
-    requires node { slots.ContainsKey records.old node }
-    requires listed { AreListed records.old lists.old }
-    ensures listed { AreListed records.new lists.new }
-    ensures same { (q : ℕ) → slots.get (nodes_of records.new lists.new) q
-        ≡ slots.get (nodes_of records.old lists.old) q }
+fn reserve_at(store: &mut ListedRecords, node: u32, more: u32) -> Result<(), Memory>
+    requires { slots.ContainsKey store.old.records node }
+    ensures { (q : ℕ) → slots.get (nodes_of store.new.records store.new.lists) q
+        ≡ slots.get (nodes_of store.old.records store.old.lists) q }
 {
-    make_list(records, lists, node, more);
-    match records[node as usize].place() {
-        Some(place) => lists.reserve_at(place, more),
+    make_list(store, node, more);
+    match store.records[node as usize].place() {
+        Some(place) => store.lists.reserve_at(place, more),
         None => Ok(()),
     }
 }
@@ -306,143 +281,115 @@ fn take_own(kept: &mut KeptRecord, dim: u8, code: Code) -> (u32, u32)
 
 // Removes the edge with a label from the list of a record, if there is one. A list that is empty
 // then goes. Gives the number of edges before and after.
-fn take_listed(
-    records: &mut Slab<KeptRecord>,
-    lists: &mut EdgeLists,
-    node: u32,
-    place: u32,
-    dim: u8,
-    code: Code,
-) -> (u32, u32)
-    requires node { IsSome (join (slots.get (nodes_of records.old lists.old) node)) }
-    requires place { IfSome (slots.get records.old node) (λ h. h.place ≡ Some place) }
-    requires listed { AreListed records.old lists.old }
-    ensures listed { AreListed records.new lists.new }
-    ensures here { slots.get (nodes_of records.new lists.new) node
+fn take_listed(store: &mut ListedRecords, node: u32, place: u32, dim: u8, code: Code) -> (u32, u32)
+    requires node { IsSome (join (slots.get (nodes_of store.old.records store.old.lists) node)) }
+    requires place { IfSome (slots.get store.old.records node) (λ h. h.place ≡ Some place) }
+    ensures here { slots.get (nodes_of store.new.records store.new.lists) node
         ≡ option_map (option_map (without_edge dim code))
-        (slots.get (nodes_of records.old lists.old) node) }
+        (slots.get (nodes_of store.old.records store.old.lists) node) }
     ensures had { result.0 ≡ length (record_or
-        (join (slots.get (nodes_of records.old lists.old) node))).edges }
+        (join (slots.get (nodes_of store.old.records store.old.lists) node))).edges }
     ensures has { result.1 ≡ length (record_or
-        (join (slots.get (nodes_of records.new lists.new) node))).edges }
-    ensures others { (q : ℕ) → q ≢ node → slots.get (nodes_of records.new lists.new) q
-        ≡ slots.get (nodes_of records.old lists.old) q }
+        (join (slots.get (nodes_of store.new.records store.new.lists) node))).edges }
+    ensures others { (q : ℕ) → q ≢ node → slots.get (nodes_of store.new.records store.new.lists) q
+        ≡ slots.get (nodes_of store.old.records store.old.lists) q }
 {
-    let (had, has) = lists.take(place, dim, code);
+    let (had, has) = store.lists.take(place, dim, code);
     if has == 0 {
-        drop_list(records, lists, node, place);
+        drop_list(store, node, place);
     }
     (had, has)
 }
 
 // Removes the edge with a label from a record, if there is one. Gives the number of edges before
 // and after.
-fn take_at(
-    records: &mut Slab<KeptRecord>,
-    lists: &mut EdgeLists,
-    node: u32,
-    dim: u8,
-    code: Code,
-) -> (u32, u32)
-    requires node { IsSome (join (slots.get (nodes_of records.old lists.old) node)) }
-    requires listed { AreListed records.old lists.old }
-    ensures listed { AreListed records.new lists.new }
-    ensures here { slots.get (nodes_of records.new lists.new) node
+fn take_at(store: &mut ListedRecords, node: u32, dim: u8, code: Code) -> (u32, u32)
+    requires { IsSome (join (slots.get (nodes_of store.old.records store.old.lists) node)) }
+    ensures here { slots.get (nodes_of store.new.records store.new.lists) node
         ≡ option_map (option_map (without_edge dim code))
-        (slots.get (nodes_of records.old lists.old) node) }
+        (slots.get (nodes_of store.old.records store.old.lists) node) }
     ensures had { result.0 ≡ length (record_or
-        (join (slots.get (nodes_of records.old lists.old) node))).edges }
+        (join (slots.get (nodes_of store.old.records store.old.lists) node))).edges }
     ensures has { result.1 ≡ length (record_or
-        (join (slots.get (nodes_of records.new lists.new) node))).edges }
-    ensures others { (q : ℕ) → q ≢ node → slots.get (nodes_of records.new lists.new) q
-        ≡ slots.get (nodes_of records.old lists.old) q }
+        (join (slots.get (nodes_of store.new.records store.new.lists) node))).edges }
+    ensures others { (q : ℕ) → q ≢ node → slots.get (nodes_of store.new.records store.new.lists) q
+        ≡ slots.get (nodes_of store.old.records store.old.lists) q }
 {
-    match records[node as usize].place() {
-        Some(place) => take_listed(records, lists, node, place, dim, code),
-        None => take_own(&mut records[node as usize], dim, code),
+    match store.records[node as usize].place() {
+        Some(place) => take_listed(store, node, place, dim, code),
+        None => take_own(&mut store.records[node as usize], dim, code),
     }
 }
 
 // Makes sure that a record can have a forced child: its only edge goes to a list if it leads to
 // another node.
-fn make_forceable(
-    records: &mut Slab<KeptRecord>,
-    lists: &mut EdgeLists,
-    node: u32,
-    forced: Option<Forced>,
-)
-    requires node { slots.ContainsKey records.old node }
-    requires listed { AreListed records.old lists.old }
-    ensures listed { AreListed records.new lists.new }
-    ensures same { (q : ℕ) → slots.get (nodes_of records.new lists.new) q
-        ≡ slots.get (nodes_of records.old lists.old) q }
-    ensures can { IfSome (slots.get records.new node) (λ h. CanForce h forced) }
-    ensures there { slots.ContainsKey records.new node }
+fn make_forceable(store: &mut ListedRecords, node: u32, forced: Option<Forced>)
+    requires { slots.ContainsKey store.old.records node }
+    ensures same { (q : ℕ) → slots.get (nodes_of store.new.records store.new.lists) q
+        ≡ slots.get (nodes_of store.old.records store.old.lists) q }
+    ensures can { IfSome (slots.get store.new.records node) (λ h. CanForce h forced) }
+    ensures there { slots.ContainsKey store.new.records node }
 {
-    if records[node as usize].can_force(forced) {
+    if store.records[node as usize].can_force(forced) {
         return;
     }
-    let list = own_edges(lists.allocator(), &records[node as usize]);
-    store_list(records, lists, node, list);
+    let list = own_edges(store.lists.allocator(), &store.records[node as usize]);
+    store_list(store, node, list);
 }
 
 // Whether there is room for one more record, and for its list.
 #[inline(always)]
-fn has_room(records: &Slab<KeptRecord>, lists: &EdgeLists) -> bool
-    ensures records { IsTrue result → slots.HasRoomFor records.now 1 }
-    ensures lists { IsTrue result → slots.slab_len records.now + 1 ≤ lists.now.capacity }
-    ensures few { IsTrue result → slots.slab_len records.now < 4000000000 }
+fn has_room(store: &ListedRecords) -> bool
+    ensures records { IsTrue result → slots.HasRoomFor store.now.records 1 }
+    ensures lists { IsTrue result → slots.slab_len store.now.records + 1 ≤ store.now.lists.capacity }
+    ensures few { IsTrue result → slots.slab_len store.now.records < 4000000000 }
 {
-    let len = records.len();
-    len < records.capacity() && len < lists.room() && len < 4_000_000_000
+    let len = store.records.len();
+    len < store.records.capacity() && len < store.lists.room() && len < MAX_RECORDS
 }
 
 // Makes room for one more record, and for its list.
 #[cold]
 #[inline(never)]
-fn make_room(records: &mut Slab<KeptRecord>, lists: &mut EdgeLists) -> Result<(), Memory>
-    requires listed { AreListed records.old lists.old }
-    ensures listed { AreListed records.new lists.new }
-    ensures room { OnOk result (slots.HasRoomFor records.new 1) }
-    ensures lists { OnOk result (slots.slab_len records.new + 1 ≤ lists.new.capacity) }
-    ensures few { OnOk result (slots.slab_len records.new < 4000000000) }
-    ensures slots { records.new.slots ≡ records.old.slots }
-    ensures next { records.new.vacant_key ≡ records.old.vacant_key }
-    ensures same { lists.new.slots ≡ lists.old.slots }
+fn make_room(store: &mut ListedRecords) -> Result<(), Memory>
+    ensures room { OnOk result (slots.HasRoomFor store.new.records 1) }
+    ensures lists { OnOk result (slots.slab_len store.new.records + 1 ≤ store.new.lists.capacity) }
+    ensures few { OnOk result (slots.slab_len store.new.records < 4000000000) }
+    ensures slots { store.new.records.slots ≡ store.old.records.slots }
+    ensures next { store.new.records.vacant_key ≡ store.old.records.vacant_key }
+    ensures same { store.new.lists.slots ≡ store.old.lists.slots }
 {
-    match records.reserve(1) {
+    match store.records.reserve(1) {
         Ok(()) => {}
         Err(error) => return Err(error),
     }
-    let len = records.len();
-    if len >= 4_000_000_000 {
+    let len = store.records.len();
+    if len >= MAX_RECORDS {
         return Err(AllocError);
     }
-    lists.reserve(len + 1)
+    store.lists.reserve(len + 1)
 }
 
 // Makes room for a record, and gives the number that it will have. Numbers have 32 bits. A batch
 // can use them up, since the number of a killed node is given to no other node before `commit`.
-fn reserve_record(records: &mut Slab<KeptRecord>, lists: &mut EdgeLists) -> Result<u32, Memory>
-    requires listed { AreListed records.old lists.old }
-    ensures listed { AreListed records.new lists.new }
-    ensures number { IfOk result (λ k. k ≡ records.new.vacant_key) }
-    ensures free { IfOk result (λ k. slots.get records.new k ≡ None) }
-    ensures room { OnOk result (slots.HasRoomFor records.new 1) }
-    ensures lists { OnOk result (slots.slab_len records.new + 1 ≤ lists.new.capacity) }
-    ensures few { OnOk result (slots.slab_len records.new < 4000000000) }
-    ensures slots { records.new.slots ≡ records.old.slots }
-    ensures next { records.new.vacant_key ≡ records.old.vacant_key }
-    ensures same { lists.new.slots ≡ lists.old.slots }
+fn reserve_record(store: &mut ListedRecords) -> Result<u32, Memory>
+    ensures number { IfOk result (λ k. k ≡ store.new.records.vacant_key) }
+    ensures free { IfOk result (λ k. slots.get store.new.records k ≡ None) }
+    ensures room { OnOk result (slots.HasRoomFor store.new.records 1) }
+    ensures lists { OnOk result (slots.slab_len store.new.records + 1 ≤ store.new.lists.capacity) }
+    ensures few { OnOk result (slots.slab_len store.new.records < 4000000000) }
+    ensures slots { store.new.records.slots ≡ store.old.records.slots }
+    ensures next { store.new.records.vacant_key ≡ store.old.records.vacant_key }
+    ensures same { store.new.lists.slots ≡ store.old.lists.slots }
 {
-    if !has_room(records, lists) {
-        match make_room(records, lists) {
+    if !has_room(store) {
+        match make_room(store) {
             Ok(()) => {}
             Err(error) => return Err(error),
         }
     }
-    let key = records.vacant_key();
-    if key >= 4_000_000_000 {
+    let key = store.records.vacant_key();
+    if key >= MAX_RECORDS {
         return Err(AllocError);
     }
     Ok(key as u32)
@@ -458,7 +405,9 @@ impl RecordStore {
             Err(error) => return Err(error),
         };
         match Slab::with_capacity(alloc, room) {
-            Ok(records) => Ok(RecordStore { records, lists }),
+            Ok(records) => Ok(RecordStore {
+                held: ListedRecords { records, lists },
+            }),
             Err(error) => {
                 drop(lists);
                 Err(error)
@@ -472,7 +421,7 @@ impl RecordStore {
         ensures { with_edges [] result.now.node
             ≡ with_edges [] (record_or (join (slots.get self.now node))) }
     {
-        match self.records.get(node as usize) {
+        match self.held.records.get(node as usize) {
             Some(record) => record,
             None => unreachable!(),
         }
@@ -482,7 +431,7 @@ impl RecordStore {
     pub(crate) fn has(&self, place: usize) -> bool
         ensures { result ≡ is_some (join (slots.get self.now place)) }
     {
-        match self.records.get(place) {
+        match self.held.records.get(place) {
             Some(record) => !record.is_killed(),
             None => false,
         }
@@ -494,14 +443,14 @@ impl RecordStore {
         ensures killed { result ≡ true → slots.get self.now node ≡ Some None }
         ensures there { result ≡ false → slots.get self.now node ≢ Some None }
     {
-        self.records[node as usize].is_killed()
+        self.held.records[node as usize].is_killed()
     }
 
     // The number of places in use.
     pub(crate) fn len(&self) -> usize
         ensures { result ≡ slots.slab_len self.now }
     {
-        self.records.len()
+        self.held.records.len()
     }
 
     // The number of places. Each number in use is smaller.
@@ -509,14 +458,14 @@ impl RecordStore {
         ensures value { result ≡ self.now.capacity }
         ensures slots { length self.now.slots ≤ result }
     {
-        self.records.capacity()
+        self.held.records.capacity()
     }
 
     // Whether a place is in use.
     pub(crate) fn contains(&self, place: usize) -> bool
         ensures { result ≡ is_some (slots.get self.now place) }
     {
-        self.records.contains(place)
+        self.held.records.contains(place)
     }
 
     pub(crate) fn edge(&self, node: u32, dim: u8, code: Code) -> Option<NodeNo>
@@ -525,9 +474,9 @@ impl RecordStore {
             (record_or (join (slots.get self.now node))).edges }
         ensures rising { rises (record_or (join (slots.get self.now node))).edges ≡ true }
     {
-        let record = &self.records[node as usize];
+        let record = &self.held.records[node as usize];
         if let Some(place) = record.place() {
-            return self.lists.at(place).target(dim, code);
+            return self.held.lists.at(place).target(dim, code);
         }
         record.own_target(dim, code)
     }
@@ -540,9 +489,9 @@ impl RecordStore {
             → slice_get (record_or (join (slots.get self.now node))).edges j ≡ Some f →
             label_lt e f ≡ true }
     {
-        let record = &self.records[node as usize];
+        let record = &self.held.records[node as usize];
         if let Some(place) = record.place() {
-            return self.lists.at(place).count();
+            return self.held.lists.at(place).count();
         }
         record.own_count()
     }
@@ -554,9 +503,9 @@ impl RecordStore {
             ≡ Some (record { dim = result.0; value = result.1; target = result.2.0 }) }
         ensures small { IsCode result.1 }
     {
-        let record = &self.records[node as usize];
+        let record = &self.held.records[node as usize];
         if let Some(place) = record.place() {
-            return self.lists.at(place).at(k);
+            return self.held.lists.at(place).at(k);
         }
         let Some(edge) = record.only() else {
             unreachable!()
@@ -569,9 +518,9 @@ impl RecordStore {
         requires { IsSome (join (slots.get self.now node)) }
         ensures { IfOk result (λ l. l ≡ (record_or (join (slots.get self.now node))).edges) }
     {
-        let record = &self.records[node as usize];
+        let record = &self.held.records[node as usize];
         match record.place() {
-            Some(place) => self.lists.at(place).copy(),
+            Some(place) => self.held.lists.at(place).copy(),
             None => Ok(own_edges(alloc, record)),
         }
     }
@@ -581,8 +530,8 @@ impl RecordStore {
         ensures number { IfOk result (λ k. k ≡ self.now.vacant_key) }
         ensures free { IfOk result (λ k. slots.get self.now k ≡ None) }
     {
-        let key = self.records.vacant_key();
-        if key >= 4_000_000_000 {
+        let key = self.held.records.vacant_key();
+        if key >= MAX_RECORDS {
             return Err(AllocError);
         }
         Ok(key as u32)
@@ -598,9 +547,9 @@ impl RecordStore {
             → slots.get self.new q ≡ slots.get self.old q) }
         ensures err { OnErr result (self.new.slots ≡ self.old.slots) }
     {
-        match reserve_record(&mut self.records, &mut self.lists) {
+        match reserve_record(&mut self.held) {
             Ok(key) => {
-                self.records.insert_reserved(new.copy());
+                self.held.records.insert_reserved(new.copy());
                 Ok(key)
             }
             Err(error) => Err(error),
@@ -613,8 +562,8 @@ impl RecordStore {
         ensures here { slots.get self.new node ≡ None }
         ensures others { (q : ℕ) → q ≢ node → slots.get self.new q ≡ slots.get self.old q }
     {
-        drop_edges(&mut self.records, &mut self.lists, node);
-        self.records.remove(node as usize);
+        drop_edges(&mut self.held, node);
+        self.held.records.remove(node as usize);
     }
 
     // Writes a record and its edges into a place in use.
@@ -623,9 +572,9 @@ impl RecordStore {
         ensures here { slots.get self.new node ≡ Some (Some (with_edges edges was.node)) }
         ensures others { (q : ℕ) → q ≢ node → slots.get self.new q ≡ slots.get self.old q }
     {
-        drop_edges(&mut self.records, &mut self.lists, node);
-        self.records[node as usize] = was.copy();
-        give_edges(&mut self.records, &mut self.lists, node, edges);
+        drop_edges(&mut self.held, node);
+        self.held.records[node as usize] = was.copy();
+        give_edges(&mut self.held, node, edges);
     }
 
     // Gives the cell of a node another number of dimensions.
@@ -636,7 +585,7 @@ impl RecordStore {
             (join (slots.get self.old node)) }
         ensures others { (q : ℕ) → q ≢ node → slots.get self.new q ≡ slots.get self.old q }
     {
-        self.records[node].set_width(dims);
+        self.held.records[node].set_width(dims);
     }
 
     // Adds an edge, or gives the edge with its label a new target. Gives how many edges more
@@ -655,7 +604,7 @@ impl RecordStore {
             (join (slots.get self.new node) ≡ join (slots.get self.old node)) }
         ensures others { (q : ℕ) → q ≢ node → slots.get self.new q ≡ slots.get self.old q }
     {
-        put_at(&mut self.records, &mut self.lists, node, edge)
+        put_at(&mut self.held, node, edge)
     }
 
     // Makes room for so many more edges of a node.
@@ -663,7 +612,7 @@ impl RecordStore {
         requires { IsSome (join (slots.get self.old node)) }
         ensures { (q : ℕ) → slots.get self.new q ≡ slots.get self.old q }
     {
-        reserve_at(&mut self.records, &mut self.lists, node, more)
+        reserve_at(&mut self.held, node, more)
     }
 
     // Removes the edge with a label, if there is one. Gives the number of edges before and after.
@@ -675,7 +624,7 @@ impl RecordStore {
         ensures has { result.1 ≡ length (record_or (join (slots.get self.new node))).edges }
         ensures others { (q : ℕ) → q ≢ node → slots.get self.new q ≡ slots.get self.old q }
     {
-        take_at(&mut self.records, &mut self.lists, node, dim, code)
+        take_at(&mut self.held, node, dim, code)
     }
 
     // Kills a node. Its place stays in use.
@@ -684,8 +633,8 @@ impl RecordStore {
         ensures here { slots.get self.new node ≡ Some None }
         ensures others { (q : ℕ) → q ≢ node → slots.get self.new q ≡ slots.get self.old q }
     {
-        drop_edges(&mut self.records, &mut self.lists, node);
-        self.records[node as usize].kill();
+        drop_edges(&mut self.held, node);
+        self.held.records[node as usize].kill();
     }
 
     // Sets the forced child of a node.
@@ -697,8 +646,8 @@ impl RecordStore {
             (join (slots.get self.old node)) }
         ensures others { (q : ℕ) → q ≢ node → slots.get self.new q ≡ slots.get self.old q }
     {
-        make_forceable(&mut self.records, &mut self.lists, node, forced);
-        self.records[node as usize].set_forced(forced);
+        make_forceable(&mut self.held, node, forced);
+        self.held.records[node as usize].set_forced(forced);
     }
 
     // Sets COUNT and the number of measures of a node, or marks it as no class.
@@ -710,6 +659,6 @@ impl RecordStore {
             (join (slots.get self.old node)) }
         ensures others { (q : ℕ) → q ≢ node → slots.get self.new q ≡ slots.get self.old q }
     {
-        self.records[node as usize].set_class(class);
+        self.held.records[node as usize].set_class(class);
     }
 }

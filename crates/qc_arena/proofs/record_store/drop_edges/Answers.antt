@@ -3,18 +3,20 @@ use Rattle.qc_arena.specs.KeptSlot.{Kept, with_edges}
 use Rattle.qc_arena.proofs.Listed.{kept_listed, kept_others, own_by, same_place}
 use Rattle.qc_arena.proofs.record_store.drop_edges.Goals as goal
 
-pub returns-in-None-clause-listed : goal.returns-in-None-clause-listed
-returns-in-None-clause-listed c =
-    let none = same_place c.args.records.now c.args.node c.index.result.now c.index_mut.result.now c.index.ensures
+pub invariant_of-store : goal.invariant_of-store
+invariant_of-store c =
+    let none = same_place c.args.store.now.records c.args.node c.index.result.now c.index_mut.result.now c.index.ensures
     c.index_mut.ensures.value None c.in-None.ensures in
-    kept_listed c.args.records.now c.args.lists.now c.requires.listed c.args.node c.index_mut.result.now
-    c.clear_edges.new.self c.index_mut.ensures.value (ap (λ (h : Kept). h.place) c.clear_edges.ensures ∙ sym none)
+    record {
+      listed = kept_listed c.args.store.now.records c.args.store.now.lists c.args.store.now.listed c.args.node c.index_mut.result.now
+          c.clear_edges.new.self c.index_mut.ensures.value (ap (λ (h : Kept). h.place) c.clear_edges.ensures ∙ sym none);
+    }
 
 pub returns-in-None-clause-here : goal.returns-in-None-clause-here
 returns-in-None-clause-here c =
-    let none = same_place c.args.records.now c.args.node c.index.result.now c.index_mut.result.now c.index.ensures
+    let none = same_place c.args.store.now.records c.args.node c.index.result.now c.index_mut.result.now c.index.ensures
     c.index_mut.ensures.value None c.in-None.ensures in
-    own_by c.args.records.now c.args.lists.now c.requires.listed c.args.node c.index_mut.result.now
+    own_by c.args.store.now.records c.args.store.now.lists c.args.store.now.listed c.args.node c.index_mut.result.now
     c.clear_edges.new.self c.index_mut.ensures.value (ap (λ (h : Kept). h.place) c.clear_edges.ensures ∙ sym none)
     (with_edges []) none (c.clear_edges.ensures ∙ sym (ap (λ (o : Option ℕ). record c.index_mut.result.now {
       node = with_edges [] c.index_mut.result.now.node;
@@ -23,7 +25,7 @@ returns-in-None-clause-here c =
 
 pub returns-in-None-clause-others : goal.returns-in-None-clause-others
 returns-in-None-clause-others c =
-    let none = same_place c.args.records.now c.args.node c.index.result.now c.index_mut.result.now c.index.ensures
+    let none = same_place c.args.store.now.records c.args.node c.index.result.now c.index_mut.result.now c.index.ensures
     c.index_mut.ensures.value None c.in-None.ensures in
-    kept_others c.args.records.now c.args.lists.now c.requires.listed c.args.node c.index_mut.result.now
+    kept_others c.args.store.now.records c.args.store.now.lists c.args.store.now.listed c.args.node c.index_mut.result.now
     c.clear_edges.new.self c.index_mut.ensures.value (ap (λ (h : Kept). h.place) c.clear_edges.ensures ∙ sym none)

@@ -7,16 +7,18 @@ use Rattle.qc_arena.specs.Records.{nodes_of}
 use Rattle.qc_arena.proofs.Listed.{kept_listed, kept_others, own_by, seen_own, there_after, write_at}
 use Rattle.qc_arena.proofs.record_store.put_own.Goals as goal
 
-pub returns-then-try_only-clause-listed : goal.returns-then-try_only-clause-listed
-returns-then-try_only-clause-listed c =
-    kept_listed c.args.records.now c.args.lists.now c.requires.listed c.args.node c.index_mut.result.now
-    c.try_only.new.self c.index_mut.ensures.value (ap (λ (h : Kept). h.place) (c.if-try_only.ensures.taken refl))
+pub invariant_of-store : goal.invariant_of-store
+invariant_of-store c =
+    record {
+      listed = kept_listed c.args.store.now.records c.args.store.now.lists c.args.store.now.listed c.args.node c.index_mut.result.now
+          c.try_only.new.self c.index_mut.ensures.value c.try_only.ensures.place;
+    }
 
 pub returns-then-try_only-clause-here : goal.returns-then-try_only-clause-here
 returns-then-try_only-clause-here c =
     let taken = c.if-try_only.ensures.taken refl in
     let h = c.index_mut.result.now in
-    own_by c.args.records.now c.args.lists.now c.requires.listed c.args.node h c.try_only.new.self
+    own_by c.args.store.now.records c.args.store.now.lists c.args.store.now.listed c.args.node h c.try_only.new.self
     c.index_mut.ensures.value (ap (λ (h : Kept). h.place) taken)
     (with_edge (edge_in c.args.edge))
     (c.if-try_only.ensures.unlisted refl) (taken ∙ sym (ap (λ (es : List (Edge ℕ ℕ)). record h {
@@ -27,23 +29,18 @@ returns-then-try_only-clause-here c =
 pub returns-then-try_only-clause-has : goal.returns-then-try_only-clause-has
 returns-then-try_only-clause-has c =
     let taken = c.if-try_only.ensures.taken refl in
-    let s = slots.with_value c.args.records.now c.args.node c.try_only.new.self in
+    let s = slots.with_value c.args.store.now.records c.args.node c.try_only.new.self in
     let there = there_after
     (with_edge (edge_in c.args.edge))
-    (slots.get (nodes_of s c.args.lists.now) c.args.node)
-    (slots.get (nodes_of c.args.records.now c.args.lists.now) c.args.node) (returns-then-try_only-clause-here c)
+    (slots.get (nodes_of s c.args.store.now.lists) c.args.node)
+    (slots.get (nodes_of c.args.store.now.records c.args.store.now.lists) c.args.node) (returns-then-try_only-clause-here c)
     c.requires.node in
-    sym (ap (λ (es : List (Edge ℕ ℕ)). length es) (seen_own s c.args.lists.now c.args.node c.try_only.new.self
-    (write_at c.args.records.now c.args.node c.index_mut.result.now c.try_only.new.self c.index_mut.ensures.value)
+    sym (ap (λ (es : List (Edge ℕ ℕ)). length es) (seen_own s c.args.store.now.lists c.args.node c.try_only.new.self
+    (write_at c.args.store.now.records c.args.node c.index_mut.result.now c.try_only.new.self c.index_mut.ensures.value)
     (ap (λ (h : Kept). h.place) taken ∙ c.if-try_only.ensures.unlisted refl) there
     ∙ ap (λ (h : Kept). h.node.edges) taken))
 
 pub returns-then-try_only-clause-others : goal.returns-then-try_only-clause-others
 returns-then-try_only-clause-others c =
-    kept_others c.args.records.now c.args.lists.now c.requires.listed c.args.node c.index_mut.result.now
+    kept_others c.args.store.now.records c.args.store.now.lists c.args.store.now.listed c.args.node c.index_mut.result.now
     c.try_only.new.self c.index_mut.ensures.value (ap (λ (h : Kept). h.place) (c.if-try_only.ensures.taken refl))
-
-pub store_list-requires-clause-listed : goal.store_list-requires-clause-listed
-store_list-requires-clause-listed c =
-    kept_listed c.args.records.now c.args.lists.now c.requires.listed c.args.node c.index_mut.result.now
-    c.try_only.new.self c.index_mut.ensures.value (ap (λ (h : Kept). h.place) (c.if-try_only.ensures.left refl))

@@ -12,28 +12,30 @@ use Rattle.qc_arena.proofs.record_store.RecordStore.restore.Goals as goal
 pub give_edges-requires-clause-node : goal.give_edges-requires-clause-node
 give_edges-requires-clause-node c =
     ap (λ (o : Option (Option Known)). is_some (join o))
-    (bare_here c.drop_edges.new.records c.drop_edges.new.lists c.drop_edges.ensures.listed c.args.node
+    (bare_here c.drop_edges.new.store.records c.drop_edges.new.store.lists c.drop_edges.new.store.listed c.args.node
     c.index_mut.result.now c.copy.result c.args.was.node c.index_mut.ensures.value c.drop_edges.ensures.unlisted
     c.copy.ensures.place c.copy.ensures.alive c.copy.ensures.node)
 
 pub give_edges-requires-clause-none : goal.give_edges-requires-clause-none
 give_edges-requires-clause-none c =
     ap (λ (o : Option (Option Known)). (record_or (join o)).edges)
-    (bare_here c.drop_edges.new.records c.drop_edges.new.lists c.drop_edges.ensures.listed c.args.node
+    (bare_here c.drop_edges.new.store.records c.drop_edges.new.store.lists c.drop_edges.new.store.listed c.args.node
     c.index_mut.result.now c.copy.result c.args.was.node c.index_mut.ensures.value c.drop_edges.ensures.unlisted
     c.copy.ensures.place c.copy.ensures.alive c.copy.ensures.node)
 
-pub give_edges-requires-clause-listed : goal.give_edges-requires-clause-listed
-give_edges-requires-clause-listed c =
+pub invariant_of-self-inside : goal.invariant_of-self-inside
+invariant_of-self-inside c =
     let none = subst (λ (o : Option Kept). IfSome o (λ h. h.place ≡ None)) c.index_mut.ensures.value
     c.drop_edges.ensures.unlisted in
-    kept_listed c.drop_edges.new.records c.drop_edges.new.lists c.drop_edges.ensures.listed c.args.node
-    c.index_mut.result.now c.copy.result c.index_mut.ensures.value (c.copy.ensures.place ∙ sym none)
+    record {
+      listed = kept_listed c.drop_edges.new.store.records c.drop_edges.new.store.lists c.drop_edges.new.store.listed c.args.node
+          c.index_mut.result.now c.copy.result c.index_mut.ensures.value (c.copy.ensures.place ∙ sym none);
+    }
 
 pub returns-clause-here : goal.returns-clause-here
 returns-clause-here c =
     c.give_edges.ensures.here ∙ ap (λ (o : Option (Option Known)). option_map (option_map (with_edges c.args.edges)) o)
-    (bare_here c.drop_edges.new.records c.drop_edges.new.lists c.drop_edges.ensures.listed c.args.node
+    (bare_here c.drop_edges.new.store.records c.drop_edges.new.store.lists c.drop_edges.new.store.listed c.args.node
     c.index_mut.result.now c.copy.result c.args.was.node c.index_mut.ensures.value c.drop_edges.ensures.unlisted
     c.copy.ensures.place c.copy.ensures.alive c.copy.ensures.node)
 
@@ -42,6 +44,6 @@ returns-clause-others c q n =
     let none = subst (λ (o : Option Kept). IfSome o (λ h. h.place ≡ None)) c.index_mut.ensures.value
     c.drop_edges.ensures.unlisted in
     c.give_edges.ensures.others q n
-    ∙ kept_others c.drop_edges.new.records c.drop_edges.new.lists c.drop_edges.ensures.listed c.args.node
+    ∙ kept_others c.drop_edges.new.store.records c.drop_edges.new.store.lists c.drop_edges.new.store.listed c.args.node
     c.index_mut.result.now c.copy.result c.index_mut.ensures.value (c.copy.ensures.place ∙ sym none) q n
     ∙ c.drop_edges.ensures.others q n ∙ ap (λ (s : slots.Slab (Option Known)). slots.get s q) c.self.view_is
