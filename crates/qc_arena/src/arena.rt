@@ -21,7 +21,6 @@ use crate::Memory;
 use crate::class_changes::changed;
 use crate::class_numbers::numbers_of_classes;
 use crate::counted::tree_edges_of;
-use crate::edge::PlainEdge;
 use crate::handing::{hand_down_at, take_back_at};
 use crate::images::Images;
 use crate::kept_record::KeptRecord;
@@ -271,12 +270,7 @@ impl QcArena {
         ensures steps { steps.new ≡ steps.old + 1 }
     {
         steps.tick();
-        let edge = PlainEdge {
-            dim,
-            code,
-            target: target.0,
-        };
-        match self.nodes.set_edge(node.0, edge) {
+        match self.nodes.set_edge(node.0, dim, code, target.0) {
             Ok(more) => {
                 self.kept = self.kept.with_more_edges(more);
                 Ok(())

@@ -8,7 +8,6 @@ ghost use Rattle.qc_arena.specs.Map.{bare};
 ghost use Rattle.qc_arena.specs.RecordReaders.{record_or};
 
 use crate::Memory;
-use crate::edge::PlainEdge;
 use crate::node_store::NodeStore;
 use crate::nodes::Forced;
 use cell_core::NodeNo;
@@ -32,23 +31,6 @@ pub(crate) struct TakenBack {
     pub has: u32,
 }
 
-// Adds a child of a node, with the code 0 in the dimension. It is no class yet.
-fn add_bare_child(nodes: &mut NodeStore, node: u32, dim: u8) -> Result<u32, Memory>
-    requires node { IsSome (join (slots.get nodes.old node)) }
-    requires behind { depth (record_or (join (slots.get nodes.old node))).cell ≤ dim }
-    requires dim { dim < length (record_or (join (slots.get nodes.old node))).cell }
-    ensures child { IfOk result (λ k. slots.get nodes.new k
-        ≡ Some (Some (bare (with_value (record_or (join (slots.get nodes.old node))).cell dim 0)
-        (Some node)))) }
-    ensures free { IfOk result (λ k. slots.get nodes.old k ≡ None) }
-    ensures others { IfOk result (λ k. (q : ℕ) → q ≢ k
-        → slots.get nodes.new q ≡ slots.get nodes.old q) }
-    ensures err { OnErr result ((q : ℕ) → slots.get nodes.new q ≡ slots.get nodes.old q) }
-{
-    let child = nodes.child_of(node, dim, 0);
-    nodes.insert(child)
-}
-
 // Moves the class of a node to a new child of it, with the code 0 in the dimension. Gives the
 // child, and how many edges the node had and has. If memory runs out, all is as it was.
 pub(crate) fn hand_down_at(nodes: &mut NodeStore, node: u32, dim: u8) -> Result<HandedDown, Memory>
@@ -69,17 +51,13 @@ pub(crate) fn hand_down_at(nodes: &mut NodeStore, node: u32, dim: u8) -> Result<
         (record_or (join (slots.get nodes.old node)))).edges) }
     ensures err { OnErr result ((q : ℕ) → slots.get nodes.new q ≡ slots.get nodes.old q) }
 {
-    let child = match add_bare_child(nodes, node, dim) {
+    let bare = nodes.child_of(node, dim, 0);
+    let child = match nodes.insert(bare) {
         Ok(child) => child,
         Err(error) => return Err(error),
     };
     let had = nodes.edge_count(node);
-    let edge = PlainEdge {
-        dim,
-        code: 0,
-        target: child,
-    };
-    match nodes.set_edge(node, edge) {
+    match nodes.set_edge(node, dim, 0, child) {
         Ok(_) => {
             let has = nodes.edge_count(node);
             nodes.move_class(node, child);

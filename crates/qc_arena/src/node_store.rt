@@ -8,7 +8,7 @@ ghost use Rattle.slab.specs.Slab as slots;
 ghost use Rattle.cube_defs.specs.Cell.{depth, with_value};
 ghost use Rattle.tree_laws.specs.Walk.{last_label, target_at};
 ghost use Rattle.qc_arena.specs.Changes.{count_in};
-ghost use Rattle.qc_arena.specs.Edges.{edge_in, rises, with_edge, without_edge};
+ghost use Rattle.qc_arena.specs.Edges.{rises, with_edge, without_edge};
 ghost use Rattle.qc_arena.specs.Inside.{join};
 ghost use Rattle.qc_arena.specs.Map.{bare, with_class, with_forced};
 ghost use Rattle.qc_arena.specs.Parts.{HasRoom, IsShown, IsStored, parts_in};
@@ -314,12 +314,20 @@ impl NodeStore {
     }
 
     // Sets an edge of a node. Gives how many edges more there are.
-    pub(crate) fn set_edge(&mut self, node: u32, edge: PlainEdge) -> Result<u32, Memory>
-        requires { IsSome (join (slots.get self.old node)) }
+    pub(crate) fn set_edge(
+        &mut self,
+        node: u32,
+        dim: u8,
+        code: Code,
+        target: u32,
+    ) -> Result<u32, Memory>
+        requires node { IsSome (join (slots.get self.old node)) }
+        requires code { IsCode code }
         ensures others { (q : ℕ) → q ≢ node → slots.get self.new q ≡ slots.get self.old q }
         ensures here { IsSome (join (slots.get self.new node)) }
         ensures ok { OnOk result
-            (join (slots.get self.new node) ≡ option_map (with_edge (edge_in edge))
+            (join (slots.get self.new node) ≡ option_map
+            (with_edge (record { dim = dim; value = code; target = target }))
             (join (slots.get self.old node))) }
         ensures more { IfOk result
             (λ n. length (record_or (join (slots.get self.new node))).edges
@@ -329,7 +337,7 @@ impl NodeStore {
         ensures err { OnErr result
             (join (slots.get self.new node) ≡ join (slots.get self.old node)) }
     {
-        self.records.set_edge(node, edge)
+        self.records.set_edge(node, PlainEdge { dim, code, target })
     }
 
     // Makes room for so many more edges of a node.
@@ -393,16 +401,6 @@ impl NodeStore {
         self.records.set_class(node, class);
     }
 
-    // Marks a node as no class.
-    fn clear_class(&mut self, node: u32)
-        requires { IsSome (join (slots.get self.old node)) }
-        ensures others { (q : ℕ) → q ≢ node → slots.get self.new q ≡ slots.get self.old q }
-        ensures here { join (slots.get self.new node)
-            ≡ option_map (with_class None) (join (slots.get self.old node)) }
-    {
-        self.records.set_class(node, &None);
-    }
-
     // Moves the class of a node to another node.
     pub(crate) fn move_class(&mut self, from: u32, to: u32)
         requires from { IsSome (join (slots.get self.old from)) }
@@ -418,6 +416,6 @@ impl NodeStore {
     {
         let class = self.class(from);
         self.set_class(to, &class);
-        self.clear_class(from);
+        self.set_class(from, &None);
     }
 }
