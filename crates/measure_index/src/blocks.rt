@@ -1,7 +1,8 @@
 // Keys in rising order, in blocks none of which is empty.
 ghost use Rattle.std.specs.List.{All, insert, remove};
-ghost use Rattle.std.specs.Ordering.{is_gt};
-ghost use Rattle.std.specs.Prelude.{IfOk, OnErr, Vec, drop, if◌then◌else◌, is_ok, length, slice_index_or, true, vec_capacity, vec_len, ◌+◌, ◌++◌, ◌-◌, ◌<◌, ◌≡◌, ◌≤◌};
+ghost use Rattle.std.specs.Ordering.{is_gt, is_lt};
+ghost use Rattle.std.specs.declared.cmp.Ordering.TheVariants.{Less};
+ghost use Rattle.std.specs.Prelude.{IfOk, OnErr, Vec, drop, false, if◌then◌else◌, is_ok, length, slice_index_or, true, vec_capacity, vec_len, ◌+◌, ◌++◌, ◌-◌, ◌<◌, ◌≡◌, ◌≤◌};
 ghost use Rattle.measure_index.specs.Blocks.{AreBlocks, AreBounds, HasCome, HasGone, joined, place_of};
 ghost use Rattle.measure_index.specs.ColumnKeys.{key_cmp};
 ghost use Rattle.measure_index.specs.Keys.{IsPlace, among};
@@ -23,6 +24,12 @@ const FILLED: usize = 48;
 /// A block with fewer keys is joined with the next one if that leaves room.
 const FEWEST: usize = 8;
 
+/// How many blocks a search passes one by one before its steps grow.
+const SINGLE_STEPS: usize = 4;
+
+/// How many keys of a block a search passes at once.
+const STRIDE: usize = 8;
+
 /// Where a key stands or would stand: the number of its block, its place there, and whether it is
 /// there.
 #[derive(Clone, Copy)]
@@ -42,7 +49,8 @@ fn begins_after(block: &Vec<Key>, key: &Key) -> bool
 }
 
 // The last block up to a number that doesn't begin after the key, and the first one from there on
-// that does. The search takes ever longer steps from a block that is near.
+// that does. The search steps on from a block that is near. The next key of a batch is seldom far,
+// so only the later steps grow.
 fn bounds_near(blocks: &[Vec<Key>], near: usize, key: &Key) -> (usize, usize)
     requires near { near < length blocks.now }
     requires full { All (λ b. 0 < length b.items) blocks.now }
@@ -54,9 +62,13 @@ fn bounds_near(blocks: &[Vec<Key>], near: usize, key: &Key) -> (usize, usize)
         near
     };
     let mut step = 1;
+    let mut passed = 0;
     'steps: while low + step < blocks.len() && !begins_after(&blocks[low + step], key) {
         low += step;
-        step *= 2;
+        passed += 1;
+        if passed > SINGLE_STEPS {
+            step *= 2;
+        }
     }
     (low, blocks.len().min(low + step))
 }
@@ -79,24 +91,36 @@ fn block_for(blocks: &[Vec<Key>], near: usize, key: &Key) -> usize
     low
 }
 
-// The first place whose key isn't smaller, among sorted keys.
+// A place before which a smaller key stands, or 0, with fewer smaller keys from there on than a
+// stride has. Sorted keys are passed in strides.
+fn passed_in(keys: &[Key], key: &Key) -> usize
+    ensures within { result ≤ length keys.now }
+    ensures less { (d : Key) → 0 < result
+        → key_cmp (slice_index_or keys.now (result - 1) d) key.now ≡ Less }
+    ensures near { (d : Key) → result + 8 ≤ length keys.now
+        → is_lt (key_cmp (slice_index_or keys.now (result + 7) d) key.now) ≡ false }
+{
+    let mut place = 0;
+    'strides: while place + STRIDE <= keys.len() && keys[place + STRIDE - 1].is_before(key) {
+        place += STRIDE;
+    }
+    place
+}
+
+// The first place whose key isn't smaller, among sorted keys. The keys are read in their order, so
+// the processor fetches them ahead.
 fn place_in(keys: &[Key], key: &Key) -> usize
     ensures { IsPlace key_cmp keys.now key.now result }
 {
-    let mut low = 0;
-    let mut high = keys.len();
-    'halves: while low < high {
-        let middle = low + (high - low) / 2;
-        if keys[middle].is_before(key) {
-            low = middle + 1;
-        } else {
-            high = middle;
-        }
+    let mut place = passed_in(keys, key);
+    'places: while place < keys.len() && keys[place].is_before(key) {
+        place += 1;
     }
-    low
+    place
 }
 
 // Where a key stands or would stand. The search begins at a block that is near.
+#[inline(always)]
 fn spot_of(blocks: &[Vec<Key>], near: usize, key: &Key) -> Spot
     requires some { 0 < length blocks.now }
     requires are { AreBlocks blocks.now }
@@ -139,6 +163,26 @@ fn split(alloc: Global, blocks: &mut Vec<Vec<Key>>, at: usize) -> Result<(), Mem
     Ok(())
 }
 
+// Splits the block of a key that isn't there, and gives the key's spot then.
+#[inline(never)]
+fn spot_after_split(
+    alloc: Global,
+    blocks: &mut Vec<Vec<Key>>,
+    block: usize,
+    key: &Key,
+) -> Result<Spot, Memory>
+    requires are { AreBlocks blocks.old.items }
+    requires within { block < length blocks.old.items }
+    requires long { (d : Vec Key Global)
+        → 32 < length (slice_index_or blocks.old.items block d).items }
+    ensures are { AreBlocks blocks.new.items }
+    ensures same { joined blocks.new.items ≡ joined blocks.old.items }
+    ensures spot { IfOk result (λ spot. IsSpot blocks.new.items key.now spot) }
+{
+    split(alloc, blocks, block)?;
+    Ok(spot_of(blocks, block, key))
+}
+
 // The spot of a key. If the key isn't there, its block has room.
 fn roomy_spot(
     alloc: Global,
@@ -156,8 +200,7 @@ fn roomy_spot(
     if spot.found || blocks[spot.block].len() < MOST {
         return Ok(spot);
     }
-    split(alloc, blocks, spot.block)?;
-    Ok(spot_of(blocks, near, key))
+    spot_after_split(alloc, blocks, spot.block, key)
 }
 
 // Adds a key at a place of a block. The keys from there on are moved at once.

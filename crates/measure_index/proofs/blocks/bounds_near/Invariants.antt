@@ -13,6 +13,7 @@ invariant-steps l = record {
       → is_gt (key_cmp (slice_index_or (slice_index_or l.blocks l.low d).items 0 e) l.key) ≡ false;
   some : 0 < l.step;
   small : l.step ≤ l.low + 1;
+  passed : l.passed ≤ l.low;
 }
 
 abbrev pub decreases-steps : goal.decreases-steps

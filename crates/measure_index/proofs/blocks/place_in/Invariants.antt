@@ -1,18 +1,15 @@
-use Rattle.std.proofs.Common.{false, length, ◌-◌, ◌<◌, ◌≡◌, ◌≤◌}
+use Rattle.std.proofs.Common.{length, ◌-◌, ◌<◌, ◌≡◌, ◌≤◌}
 use Rattle.std.specs.Prelude.{slice_index_or}
-use Rattle.std.specs.Ordering.{is_lt}
 use Rattle.std.specs.declared.cmp.Ordering.TheVariants.{Less}
 use Rattle.measure_index.specs.ColumnKeys.{key_cmp}
 use Rattle.measure_index.specs.declared.key.Key.{Key}
 use Rattle.measure_index.proofs.blocks.place_in.Given as goal
 
-abbrev pub invariant-halves : goal.invariant-halves
-invariant-halves l = record {
-  apart : l.low ≤ l.high;
-  within : l.high ≤ length l.keys;
-  less : (d : Key) → 0 < l.low → key_cmp (slice_index_or l.keys (l.low - 1) d) l.key ≡ Less;
-  others : (d : Key) → l.high < length l.keys → is_lt (key_cmp (slice_index_or l.keys l.high d) l.key) ≡ false;
+abbrev pub invariant-places : goal.invariant-places
+invariant-places l = record {
+  within : l.place ≤ length l.keys;
+  less : (d : Key) → 0 < l.place → key_cmp (slice_index_or l.keys (l.place - 1) d) l.key ≡ Less;
 }
 
-abbrev pub decreases-halves : goal.decreases-halves
-decreases-halves l = l.high - l.low
+abbrev pub decreases-places : goal.decreases-places
+decreases-places l = length l.keys - l.place
