@@ -68,7 +68,7 @@ module _ {dims : ℕ} {nodes : Tree ℕ} {d : Deletion} {t u : Cell ℕ} {i numb
   -- the steps of the labels before the k-th
   pub paid : (k until steps old : ℕ) → k ≤ length edges → until ≤ length edges
       → ((v : ℕ) → get_or t i None ≡ Some v
-      → steps ≤ old + (3 + length edges + k + 2 * length u * until
+      → steps ≤ old + (3 + 2 * length edges + k + 2 * length u * until
       + (2 * length u + 3) * length (other_values i v (take k edges))))
       → steps ≤ old + (2 + (4 * length u + 7) * length edges)
   paid k until steps old within ahead had =

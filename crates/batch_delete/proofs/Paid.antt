@@ -25,7 +25,7 @@ shares : (n e : ℕ) → (4 * n + 7) * e ≡ 2 * n * e + (2 * n + 3) * e + 4 * e
 shares n e = grind arith
 
 -- so many labels were read, so many searched for, and so many of them joined
-pub label_steps : (n e k until m s old : ℕ) → s ≤ old + (3 + e + k + 2 * n * until + (2 * n + 3) * m) → k ≤ e → until ≤ e
+pub label_steps : (n e k until m s old : ℕ) → s ≤ old + (3 + 2 * e + k + 2 * n * until + (2 * n + 3) * m) → k ≤ e → until ≤ e
     → suc m ≤ e → s ≤ old + (2 + (4 * n + 7) * e)
 label_steps n e k until m s old h a within b =
     let up = times_mono (2 * n + 3) (m + 1) e (omega arith) in

@@ -22,7 +22,7 @@ use crate::generalizing::NodeCell;
 use crate::labels::first_label;
 use crate::partial_search::{find_from, prefix_node};
 use crate::plan::{NodePlan, copied, planned_rest};
-use crate::searches::{SEARCHES, Searches, searches_at};
+use crate::searches::{SEARCHES, Searches, search_on};
 use crate::stays::settled;
 use crate::subtracting::combined;
 use aggregates::Agg;
@@ -123,18 +123,18 @@ fn own_part<'a, L: Ledger>(
 }
 
 // Joins the rows of a label to the rest. The label's value isn't the tuple's. Gives whether the
-// label has any rows of the class. `found` is what the search for the label has found.
+// label has any rows of the class. `node` is what the search for the label has found.
 fn with_part<L: Ledger>(
     arena: &QcArena,
     cell: &Cell,
     label: (u8, Code, NodeNo),
-    found: Option<NodeNo>,
+    node: NodeNo,
     rest: &mut Option<Rest>,
     steps: &mut Steps<L>,
 ) -> bool
     ghost d: { Deletion }
     requires label { IsPartLabel d arena.now cell.now label.0 label.1 }
-    requires found { IsNumberOfCell arena.now.now (option_map number found)
+    requires found { IsNumberOfCell arena.now.now (Some node.0)
         (closure_in (source_before d) (with_value cell.now label.0 label.1)) }
     requires few { (part : _)
         → IsRest d.measures (rows_before d) (with_value cell.now label.0 label.1) (Some part) →
@@ -147,9 +147,6 @@ fn with_part<L: Ledger>(
     ensures same { result ≡ false → rest.new ≡ rest.old }
     ensures steps { steps.new ≤ steps.old + (2 * length cell.now + 3) }
 {
-    let Some(node) = found else {
-        return false;
-    };
     let (dim, code, _) = label;
     let mut more = cell.copy();
     more.set(dim, Entry::Is(code));
@@ -163,11 +160,11 @@ fn with_part<L: Ledger>(
 }
 
 // Joins the rows of a label to the rest, unless the label has the tuple's value. Gives whether the
-// rest has more rows. `found` is what the search for the label has found.
+// rest has more rows. `node` is what the search for the label has found.
 fn with_label<L: Ledger>(
     class: &Class<'_>,
     label: (u8, Code, NodeNo),
-    found: Option<NodeNo>,
+    node: NodeNo,
     rest: &mut Option<Rest>,
     steps: &mut Steps<L>,
 ) -> bool
@@ -175,7 +172,7 @@ fn with_label<L: Ledger>(
     requires class { IsKnown d class.now }
     requires label { IsPartLabel d class.now.row.now.arena.now class.now.cell.now label.0
         label.1 }
-    requires found { IsNumberOfCell class.now.row.now.arena.now.now (option_map number found)
+    requires found { IsNumberOfCell class.now.row.now.arena.now.now (Some node.0)
         (closure_in (source_before d) (with_value class.now.cell.now label.0 label.1)) }
     requires few { is_value (slice_index_or class.now.row.now.tuple.now label.0 None) label.1
         ≡ false → (part : _) →
@@ -206,21 +203,7 @@ fn with_label<L: Ledger>(
     if has(class.row.tuple, label.0, label.1) {
         return false;
     }
-    with_part(class.row.arena, class.cell, label, found, rest, steps)
-}
-
-// The rest of a class, if some of its rows settle it. The same rows aren't asked twice.
-fn settled_by_more(class: &Class<'_>, some: &Option<Rest>, are_more: bool) -> Option<Rest>
-    ghost d: { Deletion }
-    requires { CanSettle d class.now some.now }
-    ensures rest { IfSome result
-        (λ rest. IsRest d.measures (rows_after d) class.now.cell.now (Some rest)) }
-{
-    if are_more {
-        settled(class, some.as_ref())
-    } else {
-        None
-    }
+    with_part(class.row.arena, class.cell, label, node, rest, steps)
 }
 
 // The rest of a class. It begins with the rows that have the tuple's value in the dimension. Then
@@ -242,31 +225,33 @@ fn with_labels<L: Ledger>(
         (record_at class.now.row.now.arena.now.now front.0).edges) }
 {
     let arena = class.row.arena;
-    let end = arena.edge_count(front, steps);
+    let _dims = class.cell.dims();
+    let _labels = arena.edge_count(front, steps);
     match settled(class, own) {
         Some(done) => return Some(done),
         None => {}
     }
     let mut all = copied(own);
-    let mut are_more = false;
-    let first = first_label(arena, front, dim, steps);
+    let first = first_label(arena, front, dim, 0, steps);
+    let end = first_label(arena, front, dim + 1, first, steps);
     let mut searches = Searches {
         from: first,
         until: first,
+        end,
         nodes: [None; SEARCHES as usize],
     };
     'labels: for k in first..end {
+        search_on(class, dim, front, k, &mut searches, steps);
+        let Some(node) = searches.nodes[(k - searches.from) as usize] else {
+            continue;
+        };
         let label = arena.edge_at(front, k, steps);
-        if label.0 != dim {
-            return all;
+        if with_label(class, label, node, &mut all, steps) {
+            match settled(class, all.as_ref()) {
+                Some(done) => return Some(done),
+                None => {}
+            }
         }
-        match settled_by_more(class, &all, are_more) {
-            Some(done) => return Some(done),
-            None => {}
-        }
-        searches = searches_at(class, dim, front, k, searches, steps);
-        let found = searches.nodes[(k - searches.from) as usize];
-        are_more = with_label(class, label, found, &mut all, steps);
     }
     all
 }

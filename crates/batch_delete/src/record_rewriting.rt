@@ -49,7 +49,7 @@ fn left_count<L: Ledger>(
 {
     match next {
         None => arena.edge_count(node, steps),
-        Some((dim, _)) => first_label(arena, node, dim, steps),
+        Some((dim, _)) => first_label(arena, node, dim, 0, steps),
     }
 }
 

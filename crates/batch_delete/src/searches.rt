@@ -21,10 +21,12 @@ use tree_search::step;
 pub(crate) const SEARCHES: u32 = 8;
 
 /// The nodes found for some labels in a row. The labels are those from a place on, until another.
+/// The labels to be searched for end at `end`.
 #[derive(Clone, Copy)]
 pub(crate) struct Searches {
     pub from: u32,
     pub until: u32,
+    pub end: u32,
     pub nodes: [Option<NodeNo>; SEARCHES as usize],
 }
 
@@ -122,16 +124,14 @@ fn find_some<L: Ledger>(
     from: u32,
     until: u32,
     steps: &mut Steps<L>,
-) -> Searches
+) -> [Option<NodeNo>; SEARCHES as usize]
     ghost d: { Deletion }
     requires front { IsPrefixNode d class.now dim front.0 }
     requires until { until ≤ length (record_at class.now.row.now.arena.now.now front.0).edges }
     requires from { from ≤ until }
     requires many { until ≤ from + SEARCHES }
-    ensures from { result.from ≡ from }
-    ensures until { result.until ≡ until }
     ensures found { AreFound d class.now.row.now.arena.now.now class.now.cell.now dim
-        (record_at class.now.row.now.arena.now.now front.0).edges result }
+        (record_at class.now.row.now.arena.now.now front.0).edges from until result }
     ensures steps { steps.new + (until - from)
         ≤ steps.old + 2 * length class.now.cell.now * (until - from) }
 {
@@ -148,43 +148,47 @@ fn find_some<L: Ledger>(
             steps,
         );
     }
-    Searches { from, until, nodes }
+    nodes
 }
 
-/// The searches for labels of which one is at a place. They are those from before, unless the place
-/// is after all of these.
-pub(crate) fn searches_at<L: Ledger>(
+/// Goes on to the searches for the labels from a place on, if the place is after those of before.
+pub(crate) fn search_on<L: Ledger>(
     class: &Class<'_>,
     dim: u8,
     front: NodeNo,
     k: u32,
-    before: Searches,
+    searches: &mut Searches,
     steps: &mut Steps<L>,
-) -> Searches
+)
     ghost d: { Deletion }
     requires front { IsPrefixNode d class.now dim front.0 }
-    requires k { k < length (record_at class.now.row.now.arena.now.now front.0).edges }
-    requires from { before.from ≤ k }
-    requires until { k ≤ before.until }
-    requires many { before.until ≤ before.from + SEARCHES }
-    requires within { before.until
+    requires k { k < searches.old.end }
+    requires from { searches.old.from ≤ k }
+    requires until { k ≤ searches.old.until }
+    requires many { searches.old.until ≤ searches.old.from + SEARCHES }
+    requires ahead { searches.old.until ≤ searches.old.end }
+    requires within { searches.old.end
         ≤ length (record_at class.now.row.now.arena.now.now front.0).edges }
     requires found { AreFound d class.now.row.now.arena.now.now class.now.cell.now dim
-        (record_at class.now.row.now.arena.now.now front.0).edges before }
-    ensures from { result.from ≤ k }
-    ensures until { k < result.until }
-    ensures many { result.until ≤ result.from + SEARCHES }
-    ensures within { result.until
-        ≤ length (record_at class.now.row.now.arena.now.now front.0).edges }
+        (record_at class.now.row.now.arena.now.now front.0).edges searches.old.from
+        searches.old.until searches.old.nodes }
+    ensures from { searches.new.from ≤ k }
+    ensures until { k < searches.new.until }
+    ensures many { searches.new.until ≤ searches.new.from + SEARCHES }
+    ensures end { searches.new.end ≡ searches.old.end }
+    ensures ahead { searches.new.until ≤ searches.new.end }
     ensures found { AreFound d class.now.row.now.arena.now.now class.now.cell.now dim
-        (record_at class.now.row.now.arena.now.now front.0).edges result }
-    ensures steps { steps.new + 2 * length class.now.cell.now * before.until
-        ≤ steps.old + 2 * length class.now.cell.now * result.until }
+        (record_at class.now.row.now.arena.now.now front.0).edges searches.new.from
+        searches.new.until searches.new.nodes }
+    ensures steps { steps.new + 2 * length class.now.cell.now * searches.old.until
+        ≤ steps.old + 2 * length class.now.cell.now * searches.new.until }
 {
-    if k < before.until {
-        return before;
+    if k < searches.until {
+        return;
     }
-    let left = class.row.arena.edge_count(front, steps) - k;
+    let left = searches.end - k;
     let many = if left < SEARCHES { left } else { SEARCHES };
-    find_some(class, dim, front, k, k + many, steps)
+    searches.from = k;
+    searches.until = k + many;
+    searches.nodes = find_some(class, dim, front, k, k + many, steps);
 }

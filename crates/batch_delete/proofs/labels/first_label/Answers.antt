@@ -15,6 +15,7 @@ halves-preserved-then-at-dim g c =
           = c.edge_at-at.result.2.0;
     } in
     record {
+      from = omega arith;
       within = c.halves.invariant.within;
       meets = omega arith;
       before = λ k x l e. let low
@@ -34,6 +35,7 @@ halves-preserved g c =
           = c.edge_at-at.result.2.0;
     } in
     record {
+      from = c.halves.invariant.from;
       within = omega arith;
       meets = omega arith;
       before = c.halves.invariant.before;

@@ -5,6 +5,7 @@ use Rattle.batch_delete.proofs.labels.first_label.Given as goal
 
 abbrev pub invariant-halves : goal.invariant-halves
 invariant-halves g l = record {
+  from : l.fn.from ≤ l.first;
   within : l.end ≤ length (record_at l.arena.now l.node.0).edges;
   meets : l.first ≤ l.end;
   before : (k : ℕ) (x : Edge ℕ ℕ) → k < l.first → slice_get (record_at l.arena.now l.node.0).edges k ≡ Some x

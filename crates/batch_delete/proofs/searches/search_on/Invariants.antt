@@ -1,4 +1,4 @@
-use Rattle.batch_delete.proofs.searches.searches_at.Given as goal
+use Rattle.batch_delete.proofs.searches.search_on.Given as goal
 
 abbrev pub ghost-find_some : goal.ghost-find_some
 ghost-find_some g a = g.d
