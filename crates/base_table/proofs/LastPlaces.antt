@@ -1,6 +1,8 @@
 -- What the last place of a list that passes says.
 use Rattle.std.proofs.Common.{◌≡◌, ℕ, ◌<◌, ◌≤◌, length, List, [], ◌∷◌, Bool, true, false, cond, refl, ap, arith, take, get_or, zero, suc}
 use Rattle.std.proofs.Common.{nat_eq, map, ◌∙◌}
+use Rattle.std.specs.List.{All}
+use Rattle.std.proofs.lemmas.List.Elements.{All-head, All-tail}
 use Rattle.base_table.specs.Last.{last_of}
 
 passes_first : {A : Type 0} (p : A → Bool) (x : A) (xs : List A) → last_of p (x ∷ xs) ≡ 1 → p x ≡ true
@@ -64,3 +66,13 @@ last_take_step p x xs (suc n) e h =
 pub last_take : {A : Type 0} (p : A → Bool) (xs : List A) → last_of p (take (last_of p xs) xs) ≡ last_of p xs
 last_take p [] = refl
 last_take p (x ∷ xs) = last_take_step p x xs (last_of p xs) refl (last_take p xs)
+
+above_step : (id x : ℕ) (xs : List ℕ) → x < id → 0 ≡ last_of (nat_eq id) xs → 0 ≡ last_of (nat_eq id) (x ∷ xs)
+above_step id x xs lt h = grind (arith, lt, h)
+
+-- a number that is larger than all others has no place among them
+pub none_above : (id top : ℕ) (ids : List ℕ) → top < id → All (λ other. other ≤ top) ids → 0 ≡ last_of (nat_eq id) ids
+none_above id top [] lt h = refl
+none_above id top (x ∷ xs) lt h =
+    let first : x ≤ top = All-head (λ other. other ≤ top) x xs h in
+    above_step id x xs (omega (arith, first, lt)) (none_above id top xs lt (All-tail (λ other. other ≤ top) x xs h))

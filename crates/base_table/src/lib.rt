@@ -5,6 +5,7 @@
 mod chains;
 mod fingerprints;
 mod group;
+mod ids;
 mod lines;
 mod numbered;
 mod presence;

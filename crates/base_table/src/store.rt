@@ -9,6 +9,7 @@ ghost use Rattle.base_table.specs.Store.{id_of, print_in, print_of};
 
 use crate::chains::{self, Chains};
 use crate::fingerprints::Fingerprinter;
+use crate::ids::Ids;
 use crate::{Memory, lines};
 use cell_core::{Cell, HashKeys};
 use cube_defs::{MAX_AMOUNT, MAX_DIMS, MAX_MEASURES};
@@ -26,7 +27,7 @@ pub struct Store {
     printer: Fingerprinter,
     measures: u8,
     keys: HashKeys,
-    ids: Chains<u64>,
+    ids: Ids,
     // A fingerprint for each tuple. Equal tuples have equal ones.
     prints: Chains<u32>,
     // It has room for the most dimensions, so that a new one takes no memory.
@@ -68,7 +69,7 @@ impl Store {
             printer: Fingerprinter::new(keys, dims),
             measures,
             keys,
-            ids: Chains::new(alloc, keys.number()),
+            ids: Ids::new(alloc, keys.number()),
             prints: Chains::new(alloc, keys.number()),
             codes: Vec::new(alloc),
             amounts: Vec::new(alloc),
@@ -110,7 +111,7 @@ impl Store {
     pub fn last(&self, id: u64) -> u32
         ensures { result ≡ last_of (nat_eq id) (map id_of self.now.rows) }
     {
-        self.ids.last(&id)
+        self.ids.last(id)
     }
 
     /// One more than the last place of a tuple that shares its fingerprint with the cell, or 0.
@@ -225,11 +226,20 @@ impl Store {
         Ok(())
     }
 
-    /// Prepares the look-up by fingerprints for all rows that were appended since it was prepared
-    /// last. Takes no memory.
-    pub fn link_fingerprints(&mut self)
+    /// Prepares the look-ups by ids for all rows that were appended since it was prepared last.
+    /// Takes no memory.
+    pub fn link_ids(&mut self)
         ensures { self.new ≡ self.old }
     {
+        self.ids.link();
+    }
+
+    /// Prepares the look-ups by ids and fingerprints for all rows that were appended since they
+    /// were prepared last. Takes no memory.
+    pub fn link(&mut self)
+        ensures { self.new ≡ self.old }
+    {
+        self.ids.link();
         self.prints.link();
     }
 
@@ -246,7 +256,7 @@ impl Store {
         requires { len ≤ length self.old.rows }
         ensures { self.new ≡ record self.old { rows = take len self.old.rows } }
     {
-        chains::cut(&mut self.ids, len);
+        self.ids.cut(len);
         chains::cut(&mut self.prints, len);
         self.codes.truncate(len as usize * self.dims as usize);
         self.amounts.truncate(len as usize * self.measures as usize);

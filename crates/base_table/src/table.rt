@@ -280,9 +280,9 @@ impl Table {
         requires closed { self.old.was ≡ None }
         ensures value { self.new ≡ record self.old { was = Some (base_of self.old) } }
     {
-        // All rows so far in one go: a load inserts many, and no row of a batch is asked for by its
-        // tuple before the next one.
-        self.store.link_fingerprints();
+        // All rows so far in one go: a load inserts many. No row of a batch is asked for by its
+        // tuple before the next one, and hardly one by its id.
+        self.store.link();
         self.is_open = true;
     }
 
@@ -339,6 +339,7 @@ impl Table {
         ensures missing { OnErr result (has_id (rows_of self.old) id ≡ false) }
         ensures err { OnErr result (self.new ≡ self.old) }
     {
+        self.link_ids();
         match presence::find(&self.store, &self.here, id) {
             Some(place) => Ok(self.delete_at(place)),
             None => Err(Missing),
@@ -417,6 +418,13 @@ impl Table {
         self.here.push_reserved(true);
         self.count += 1;
         Ok(())
+    }
+
+    // Prepares the look-up by ids for all rows so far.
+    fn link_ids(&mut self)
+        ensures { self.new ≡ self.old }
+    {
+        self.store.link_ids();
     }
 
     // Deletes the row at a place.

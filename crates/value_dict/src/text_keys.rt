@@ -1,6 +1,6 @@
 // The hash of texts, under drawn keys.
 ghost use Rattle.std.specs.Prelude.{length, slice_index_or, ◌<◌, ◌≡◌, ◌≤◌};
-ghost use Rattle.value_dict.specs.Hashing.{coefficient, step};
+ghost use Rattle.value_dict.specs.Hashing.{coefficient, step, value_of};
 
 use cell_core::HashKeys;
 use std::hash::{BuildHasher, Hasher};
@@ -14,10 +14,14 @@ const SPREAD: u64 = 0x9e37_79b9_7f4a_7c15;
 /// So many bytes of a text make one coefficient.
 const PIECE: usize = 3;
 
+/// This byte is written after each text. It is in no text.
+const END: u8 = 255;
+
 /// The hash of a text: the value of a polynomial at a drawn multiplier, modulo a prime. It has a
 /// coefficient for each piece of three bytes, and one for the bytes that are left. Two texts share
 /// a value under at most as many multipliers as the longer one has pieces (Carter and Wegman,
 /// 1979). So whoever doesn't know the multiplier can hardly choose two texts that share a value.
+/// Only the text that was written last counts.
 #[derive(Clone, Copy)]
 pub(crate) struct TextHasher {
     value: u32,
@@ -53,6 +57,22 @@ fn step(multiplier: u32, value: u32, coefficient: u32) -> u32
     ((u64::from(value) * u64::from(multiplier) + u64::from(coefficient)) % PRIME) as u32
 }
 
+// The value of a text's polynomial.
+fn value_of(multiplier: u32, text: &[u8]) -> u32
+    ensures { result ≡ value_of multiplier text.now }
+{
+    if text.len() <= PIECE {
+        return coefficient(text);
+    }
+    let mut value = coefficient(&text[..PIECE]);
+    let mut at = PIECE;
+    'pieces: while text.len() - at > PIECE {
+        value = step(multiplier, value, coefficient(&text[at..at + PIECE]));
+        at += PIECE;
+    }
+    step(multiplier, value, coefficient(&text[at..]))
+}
+
 impl Hasher for TextHasher {
     ghost use Rattle.value_dict.specs.Hashing.{write, finish};
 
@@ -61,35 +81,28 @@ impl Hasher for TextHasher {
     ghost finish = { finish };
 
     fn finish(&self) -> u64 {
-        u64::from(self.value).wrapping_mul(SPREAD)
+        (u64::from(self.value) * u64::from(self.multiplier)).wrapping_mul(SPREAD)
     }
 
     fn write(&mut self, bytes: &[u8]) {
-        let multiplier = self.multiplier;
-        let mut value = self.value;
-        let mut at = 0;
-        'pieces: while bytes.len() - at > PIECE {
-            value = step(multiplier, value, coefficient(&bytes[at..at + PIECE]));
-            at += PIECE;
+        if bytes.len() == 1 && bytes[0] == END {
+            return;
         }
-        self.value = step(multiplier, value, coefficient(&bytes[at..]));
+        self.value = value_of(self.multiplier, bytes);
     }
 }
 
 /// What makes a hasher for each text of a dictionary.
 #[derive(Clone, Copy)]
 pub(crate) struct TextKeys {
-    initial: TextHasher,
+    multiplier: u32,
 }
 
 impl TextKeys {
     /// The multiplier that the keys determine.
     pub(crate) fn of(keys: HashKeys) -> TextKeys {
         TextKeys {
-            initial: TextHasher {
-                value: 0,
-                multiplier: keys.number(),
-            },
+            multiplier: keys.number(),
         }
     }
 }
@@ -97,9 +110,12 @@ impl TextKeys {
 impl BuildHasher for TextKeys {
     type Hasher = TextHasher;
 
-    ghost build_hasher = { λ keys. keys.initial };
+    ghost build_hasher = { λ keys. record { value = 0; multiplier = keys.multiplier } };
 
     fn build_hasher(&self) -> TextHasher {
-        self.initial
+        TextHasher {
+            value: 0,
+            multiplier: self.multiplier,
+        }
     }
 }

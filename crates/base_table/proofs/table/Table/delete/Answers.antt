@@ -21,7 +21,7 @@ find-requires c = record { last = c.self.invariant.is_now.last; places = c.self.
 pub delete_at-requires-clause-there : goal.delete_at-requires-clause-there
 delete_at-requires-clause-there c =
     let m = c.self.inside in
-    ap is_some (row-view c.self.invariant c.args.self.now c.self.view_is c.in-Some.place no_row
+    ap is_some (row-view c.self.invariant c.link_ids.new.self c.self.view_is c.in-Some.place no_row
     (found_at m.here.items m.store.rows c.args.id c.in-Some.place c.self.invariant.places c.in-Some.ensures.found))
 
 pub returns-in-Some : goal.returns-in-Some
@@ -29,12 +29,14 @@ returns-in-Some c =
     let m = c.self.inside in
     let f = c.in-Some.ensures.found in
     let row = get_or m.store.rows c.in-Some.place no_row in
-    let at = row-view c.self.invariant c.args.self.now c.self.view_is c.in-Some.place no_row
+    let at = row-view c.self.invariant c.link_ids.new.self c.self.view_is c.in-Some.place no_row
     (found_at m.here.items m.store.rows c.args.id c.in-Some.place c.self.invariant.places f) in
-    let seen = rows-view c.self.invariant c.args.self.now c.self.view_is in
+    let seen = rows-view c.self.invariant c.args.self.now (c.self.view_is ∙ c.link_ids.ensures) in
     let new = known _ row _ at c.delete_at.ensures.table
     ∙ ap (λ (id : ℕ). let t : Places
-    = record c.args.self.now { places = map (cleared id) c.args.self.now.places } in t) (f.named no_row) in
+    = record c.link_ids.new.self { places = map (cleared id) c.link_ids.new.self.places } in t) (f.named no_row)
+    ∙ ap (λ (t : Places). let after : Places = record t { places = map (cleared c.args.id) t.places } in after)
+    c.link_ids.ensures in
     record {
       ok = new;
       rows = ap rows_of new ∙ rows_cleared c.args.self.now.places c.args.id;
@@ -56,6 +58,6 @@ returns-in-None c =
       taken = tt;
       there = tt;
       missing = ap (λ (l : List (Row ℕ)). has_id l c.args.id)
-          (sym (rows-view c.self.invariant c.args.self.now c.self.view_is)) ∙ c.in-None.ensures.none;
-      err = refl;
+          (sym (rows-view c.self.invariant c.args.self.now (c.self.view_is ∙ c.link_ids.ensures))) ∙ c.in-None.ensures.none;
+      err = c.link_ids.ensures;
     }
