@@ -251,12 +251,12 @@ module _ {K : Type 0} (number : ℕ → K → ℕ) (multiplier : ℕ) (heads : L
 
 -- chains of all keys
 pub all_linked : {K : Type 0} (number : ℕ → K → ℕ) (multiplier : ℕ) (heads : List ℕ) (keys : List K) (before : List ℕ)
-    (room : ℕ) → AreChains number multiplier heads keys before → length before ≤ room
-    → AreLinkable number multiplier heads keys before room
-all_linked number multiplier heads keys before room a fits = record {
+    (room buckets : ℕ) → AreChains number multiplier heads keys before → length before ≤ room
+    → (0 < length keys → length keys < buckets) → AreLinkable number multiplier heads keys before room buckets
+all_linked number multiplier heads keys before room buckets a fits some = record {
   few = omega (arith, a.linked.len);
   small = a.small;
-  some = a.some;
+  some = some;
   fits = omega (arith, a.linked.len, fits);
   chains = subst (λ ks. AreChains number multiplier heads ks before)
       (sym (ap (λ n. take n keys) a.linked.len ∙ take-length keys)) a;

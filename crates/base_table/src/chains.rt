@@ -34,7 +34,8 @@ impl<K: Numbered> Model for Chains<K> {
     ghost view = { λ c. c.links.keys.items };
 
     ghost invariant = { λ c. AreLinkable K.number c.links.multiplier c.links.heads.items
-        c.links.keys.items c.links.before.items (vec_capacity c.links.before) };
+        c.links.keys.items c.links.before.items (vec_capacity c.links.before)
+        (vec_capacity c.links.heads) };
 }
 
 // The bucket of a key.
@@ -129,6 +130,7 @@ fn link_next<K: Numbered>(links: &mut Links<K>)
     ensures len { length links.new.before.items ≡ length links.old.before.items + 1 }
     ensures room { vec_capacity links.new.before ≡ vec_capacity links.old.before }
     ensures heads { length links.new.heads.items ≡ length links.old.heads.items }
+    ensures buckets { vec_capacity links.new.heads ≡ vec_capacity links.old.heads }
 {
     let place = links.before.len();
     let at = bucket(&links.keys[place], links.multiplier, &links.heads);
@@ -136,67 +138,92 @@ fn link_next<K: Numbered>(links: &mut Links<K>)
     links.heads[at] = place as u32 + 1;
 }
 
-// Writes 0 at each head.
-fn blank(heads: &mut Vec<u32>)
-    ensures zero { (j : ℕ) → slice_index heads.new.items j ≡ 0 }
-    ensures len { length heads.new.items ≡ length heads.old.items }
+// Removes all links, and makes as many buckets as there is room for. Takes no memory.
+fn clear_links<K: Numbered>(links: &mut Links<K>)
+    ensures zero { (j : ℕ) → slice_index links.new.heads.items j ≡ 0 }
+    ensures heads { length links.new.heads.items ≡ vec_capacity links.old.heads }
+    ensures before { links.new.before.items ≡ [] }
+    ensures multiplier { links.new.multiplier ≡ links.old.multiplier }
+    ensures keys { links.new.keys ≡ links.old.keys }
+    ensures room { vec_capacity links.new.before ≡ vec_capacity links.old.before }
+    ensures buckets { vec_capacity links.old.heads ≤ vec_capacity links.new.heads }
 {
-    'heads: for at in 0..heads.len() {
-        heads[at] = 0;
-    }
+    let room = links.heads.capacity();
+    links.before.clear();
+    links.heads.clear();
+    links.heads.resize(room, 0).unwrap();
 }
 
-// Links the keys that have no links yet. Takes no memory.
-fn link_rest<K: Numbered>(links: &mut Links<K>)
-    requires { AreLinkable K.number links.old.multiplier links.old.heads.items
-        links.old.keys.items links.old.before.items (vec_capacity links.old.before) }
+// Links the keys that have no links yet, for which there are buckets. Takes no memory.
+fn link_on<K: Numbered>(links: &mut Links<K>)
+    requires few { length links.old.before.items ≤ length links.old.keys.items }
+    requires small { length links.old.keys.items < 2 ^ 32 }
+    requires some { length links.old.keys.items < length links.old.heads.items }
+    requires fits { length links.old.keys.items ≤ vec_capacity links.old.before }
+    requires chains { AreChains K.number links.old.multiplier links.old.heads.items
+        (take (length links.old.before.items) links.old.keys.items) links.old.before.items }
     ensures chains { AreChains K.number links.new.multiplier links.new.heads.items
         links.new.keys.items links.new.before.items }
     ensures keys { links.new.keys ≡ links.old.keys }
     ensures room { vec_capacity links.new.before ≡ vec_capacity links.old.before }
-    ensures heads { length links.new.heads.items ≡ length links.old.heads.items }
+    ensures buckets { vec_capacity links.new.heads ≡ vec_capacity links.old.heads }
 {
     'keys: while links.before.len() < links.keys.len() {
         link_next(links);
     }
 }
 
-// Links all keys from scratch. Takes no memory.
+// Links all keys from scratch, if there are any. Takes no memory.
 fn relink<K: Numbered>(links: &mut Links<K>)
     requires small { length links.old.keys.items < 2 ^ 32 }
-    requires some { 0 < length links.old.keys.items → 0 < length links.old.heads.items }
+    requires some { 0 < length links.old.keys.items
+        → length links.old.keys.items < vec_capacity links.old.heads }
     requires room { length links.old.keys.items ≤ vec_capacity links.old.before }
     ensures chains { AreChains K.number links.new.multiplier links.new.heads.items
         links.new.keys.items links.new.before.items }
     ensures keys { links.new.keys ≡ links.old.keys }
     ensures room { vec_capacity links.new.before ≡ vec_capacity links.old.before }
-    ensures heads { length links.new.heads.items ≡ length links.old.heads.items }
+    ensures buckets { vec_capacity links.old.heads ≤ vec_capacity links.new.heads }
 {
-    blank(&mut links.heads);
-    links.before.clear();
-    link_rest(links);
+    clear_links(links);
+    if !links.keys.is_empty() {
+        link_on(links);
+    }
 }
 
-// Makes more buckets, if there are no more of them than so many keys.
-fn make_buckets<K: Numbered>(links: &mut Links<K>, keys: usize) -> Result<(), AllocError>
-    requires few { keys < 2 ^ 33 }
-    requires linkable { AreLinkable K.number links.old.multiplier links.old.heads.items
-        links.old.keys.items links.old.before.items (vec_capacity links.old.before) }
-    ensures linkable { AreLinkable K.number links.new.multiplier links.new.heads.items
-        links.new.keys.items links.new.before.items (vec_capacity links.new.before) }
+// Links the keys that have no links yet. Takes no memory.
+fn link_rest<K: Numbered>(links: &mut Links<K>)
+    requires { AreLinkable K.number links.old.multiplier links.old.heads.items
+        links.old.keys.items links.old.before.items (vec_capacity links.old.before)
+        (vec_capacity links.old.heads) }
+    ensures chains { AreChains K.number links.new.multiplier links.new.heads.items
+        links.new.keys.items links.new.before.items }
     ensures keys { links.new.keys ≡ links.old.keys }
     ensures room { vec_capacity links.new.before ≡ vec_capacity links.old.before }
-    ensures ok { OnOk result (0 < length links.new.heads.items) }
+    ensures buckets { vec_capacity links.old.heads ≤ vec_capacity links.new.heads }
 {
-    if keys < links.heads.len() {
-        return Ok(());
+    if links.keys.len() < links.heads.len() {
+        link_on(links);
+    } else {
+        relink(links);
     }
-    links.heads.resize(2 * keys + FEW_BUCKETS, 0)?;
-    relink(links);
-    Ok(())
 }
 
-// There are some more buckets than twice the keys, after they were made.
+// Makes room for more buckets, if there is room for no more of them than so many keys. They are
+// made when keys are linked.
+fn reserve_buckets(heads: &mut Vec<u32>, keys: usize) -> Result<(), AllocError>
+    requires few { keys < 2 ^ 33 }
+    ensures items { heads.new.items ≡ heads.old.items }
+    ensures ok { OnOk result (keys < vec_capacity heads.new) }
+    ensures room { vec_capacity heads.old ≤ vec_capacity heads.new }
+{
+    if keys < heads.capacity() {
+        return Ok(());
+    }
+    heads.reserve(2 * keys + FEW_BUCKETS - heads.len())
+}
+
+// There is room for some more buckets than twice the keys, after it was made.
 const FEW_BUCKETS: usize = 16;
 
 // Makes room for one more key, and for the links of all keys.
@@ -298,7 +325,7 @@ impl<K: Numbered + Copy + Drop> Chains<K> {
     {
         make_room(&mut self.links.keys, &mut self.links.before)?;
         let keys = self.links.keys.len();
-        make_buckets(&mut self.links, keys)?;
+        reserve_buckets(&mut self.links.heads, keys + 1)?;
         self.links.keys.push_reserved(key);
         Ok(())
     }
@@ -332,7 +359,7 @@ impl<K: Numbered + Copy + Drop> Chains<K> {
             .before
             .reserve(links.keys.len() + more as usize - links.before.len())?;
         let keys = links.keys.len() + more as usize;
-        make_buckets(links, keys)
+        reserve_buckets(&mut links.heads, keys)
     }
 
     /// Removes the last key. Takes no memory.

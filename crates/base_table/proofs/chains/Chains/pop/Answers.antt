@@ -1,4 +1,4 @@
-use Rattle.std.proofs.Common.{ℕ, ◌∙◌, ap, arith, ◌++◌, ◌∷◌, [], List, Option, subst, vec_capacity}
+use Rattle.std.proofs.Common.{ℕ, ◌∙◌, ap, arith, ◌++◌, ◌∷◌, [], List, Option, subst, vec_capacity, length, length-append}
 use Rattle.std.specs.Option.{option_to_list}
 use Rattle.base_table.specs.Last.{AreChains}
 use Rattle.base_table.proofs.Chain.{all_linked, popped}
@@ -18,5 +18,8 @@ invariant_of-self g c =
     (subst (λ (ks : List g.row.K.Denot). AreChains g.K.Numbered.number l.multiplier l.heads.items ks l.before.items)
     keys c.link_rest.ensures.chains))
     c.bucket-at.ensures.within c.bucket-at.ensures.bucket in
+    let was = ap (λ (ks : List g.row.K.Denot). length ks) (ap (λ (v : _). v.items) c.link_rest.ensures.keys) in
+    let fewer = ap length keys ∙ length-append c.pop.new.self.items (c.unwrap-key.result ∷ []) in
     all_linked g.K.Numbered.number l.multiplier _ c.pop.new.self.items c.pop-2.new.self.items
-    (vec_capacity c.pop-2.new.self) less (omega (arith, c.pop-2.new.self.ok.0, c.pop-2.new.self.ok.1))
+    (vec_capacity c.pop-2.new.self) _ less (omega (arith, c.pop-2.new.self.ok.0, c.pop-2.new.self.ok.1))
+    (λ more. omega (arith, more, fewer, was, c.link_rest.ensures.buckets, c.self.invariant.some (omega (arith, fewer, was))))

@@ -1,6 +1,6 @@
 use Rattle.std.proofs.Common.{◌≡◌, ◌-◌, ◌≤◌, length, take, vec_capacity}
 use Rattle.base_table.specs.Last.{AreChains}
-use Rattle.base_table.proofs.chains.link_rest.Given as goal
+use Rattle.base_table.proofs.chains.link_on.Given as goal
 
 abbrev pub invariant-keys : goal.invariant-keys
 invariant-keys g l = record {
@@ -10,6 +10,7 @@ invariant-keys g l = record {
   few : length l.links.before.items ≤ length l.links.keys.items;
   heads : length l.links.heads.items ≡ length l.initial.links.heads.items;
   room : vec_capacity l.links.before ≡ vec_capacity l.initial.links.before;
+  buckets : vec_capacity l.links.heads ≡ vec_capacity l.initial.links.heads;
 }
 
 abbrev pub decreases-keys : goal.decreases-keys
