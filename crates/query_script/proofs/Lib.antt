@@ -5,6 +5,7 @@ mod Asked
 mod CommandFacts
 mod Listed
 mod CodedFields
+mod Commas
 pub mod PinNames
 mod AtNames
 mod Wanting

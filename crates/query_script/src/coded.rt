@@ -1,5 +1,5 @@
 // Points that are read into codes without a copy of their fields.
-ghost use Rattle.std.specs.Prelude.{◌≡◌, ◌≤◌, ◌<◌, ◌∷◌, ◌++◌, None, IfSome, IsUtf8, MatchOption, codes, false, length, slice_set};
+ghost use Rattle.std.specs.Prelude.{◌≡◌, ◌≢◌, ◌≤◌, ◌<◌, ◌∷◌, ℕ, slice_index, ◌++◌, None, IfSome, IsUtf8, MatchOption, codes, false, length, slice_set};
 ghost use Rattle.std.specs.Option.{option_map};
 ghost use Rattle.cell_core.specs.Entry.{IsSmall, value_in};
 ghost use Rattle.text_lines.specs.Plain.{pieces};
@@ -63,14 +63,30 @@ fn put_entry(cell: &mut Cell, dim: u8, found: Option<Entry>, known: bool) -> boo
     }
 }
 
+// The place of the first comma, or the length if there is none.
+fn first_comma(text: &str) -> usize
+    ensures within { result ≤ length text.now }
+    ensures before { (i : ℕ) → i < result → slice_index text.now i ≢ 44 }
+    ensures comma { result < length text.now → slice_index text.now result ≡ 44 }
+{
+    for (at, b) in text.as_bytes().iter().enumerate() {
+        if *b == b',' {
+            return at;
+        }
+    }
+    text.len()
+}
+
 // The text up to the first comma, the text after it, and whether there is one.
 fn split_piece(text: &str) -> (&str, &str, bool)
     ensures pieces { pieces text.now ≡ result.0.now ∷ pieces_left result.2 result.1.now }
     ensures utf8 { IsUtf8 result.1.now }
 {
-    match text.split_once(',') {
-        Some((piece, behind)) => (piece, behind, true),
-        None => (text, "", false),
+    let end = first_comma(text);
+    if end < text.len() {
+        (&text[..end], &text[end + 1..], true)
+    } else {
+        (text, "", false)
     }
 }
 

@@ -1,4 +1,4 @@
-use Rattle.std.proofs.Common.{◌≡◌, ◌∙◌, ap, sym, subst, ℕ, List, [], refl, get_or, Option, Some, map, IfSome, is_some}
+use Rattle.std.proofs.Common.{◌≡◌, ◌∙◌, ap, sym, subst, ℕ, List, [], get_or, Option, Some, map, IfSome, is_some}
 use Rattle.cube_defs.specs.Rows.{Row}
 use Rattle.base_table.specs.Places.{Places, rows_of, cleared, has_id, row_with_id}
 use Rattle.base_table.proofs.Holding.{row-view, found_at, rows-view}
