@@ -49,8 +49,8 @@ fn begins_after(block: &Vec<Key>, key: &Key) -> bool
 }
 
 // The last block up to a number that doesn't begin after the key, and the first one from there on
-// that does. The search steps on from a block that is near. The next key of a batch is seldom far,
-// so only the later steps grow.
+// that does. The search begins at a block that is near. The next key of a batch is seldom far, so
+// only the later steps grow.
 fn bounds_near(blocks: &[Vec<Key>], near: usize, key: &Key) -> (usize, usize)
     requires near { near < length blocks.now }
     requires full { All (λ b. 0 < length b.items) blocks.now }
@@ -107,8 +107,8 @@ fn passed_in(keys: &[Key], key: &Key) -> usize
     place
 }
 
-// The first place whose key isn't smaller, among sorted keys. The keys are read in their order, so
-// the processor fetches them ahead.
+// The first place whose key isn't smaller, among sorted keys. They are read in their order, so the
+// processor fetches them ahead.
 fn place_in(keys: &[Key], key: &Key) -> usize
     ensures { IsPlace key_cmp keys.now key.now result }
 {
