@@ -12,7 +12,7 @@ use std::sync::ledger::Ledger;
 pub(crate) fn first_label<L: Ledger>(
     arena: &QcArena,
     node: NodeNo,
-    dim: u8,
+    dim: u16,
     from: u32,
     steps: &mut Steps<L>,
 ) -> u32
@@ -33,7 +33,7 @@ pub(crate) fn first_label<L: Ledger>(
     'halves: while first < end {
         let middle = first + (end - first) / 2;
         let (at, _, _) = arena.edge_at(node, middle, steps);
-        if at < dim {
+        if (at as u16) < dim {
             first = middle + 1;
         } else {
             end = middle;

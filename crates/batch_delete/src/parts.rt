@@ -225,15 +225,17 @@ fn with_labels<L: Ledger>(
         (record_at class.now.row.now.arena.now.now front.0).edges) }
 {
     let arena = class.row.arena;
-    let _dims = class.cell.dims();
-    let _labels = arena.edge_count(front, steps);
+    let labels = arena.edge_count(front, steps);
     match settled(class, own) {
         Some(done) => return Some(done),
         None => {}
     }
     let mut all = copied(own);
-    let first = first_label(arena, front, dim, 0, steps);
-    let end = first_label(arena, front, dim + 1, first, steps);
+    let first = first_label(arena, front, dim as u16, 0, steps);
+    if first == labels {
+        return all;
+    }
+    let end = first_label(arena, front, dim as u16 + 1, first, steps);
     let mut searches = Searches {
         from: first,
         until: first,

@@ -49,7 +49,7 @@ fn left_count<L: Ledger>(
 {
     match next {
         None => arena.edge_count(node, steps),
-        Some((dim, _)) => first_label(arena, node, dim, 0, steps),
+        Some((dim, _)) => first_label(arena, node, dim as u16, 0, steps),
     }
 }
 
