@@ -173,7 +173,8 @@ fn put_at(store: &mut ListedRecords, node: u32, edge: PlainEdge) -> Result<u32, 
         (slots.get (nodes_of store.old.records store.old.lists) node)) }
     ensures more { IfOk result (λ n. length (record_or
         (join (slots.get (nodes_of store.new.records store.new.lists) node))).edges
-        ≡ length (record_or (join (slots.get (nodes_of store.old.records store.old.lists) node))).edges + n) }
+        ≡ length (record_or
+        (join (slots.get (nodes_of store.old.records store.old.lists) node))).edges + n) }
     ensures fits { OnOk result (length (record_or
         (join (slots.get (nodes_of store.new.records store.new.lists) node))).edges < 4294967296) }
     ensures err { OnErr result (slots.get (nodes_of store.new.records store.new.lists) node
@@ -341,7 +342,8 @@ fn make_forceable(store: &mut ListedRecords, node: u32, forced: Option<Forced>)
 #[inline(always)]
 fn has_room(store: &ListedRecords) -> bool
     ensures records { IsTrue result → slots.HasRoomFor store.now.records 1 }
-    ensures lists { IsTrue result → slots.slab_len store.now.records + 1 ≤ store.now.lists.capacity }
+    ensures lists { IsTrue result
+        → slots.slab_len store.now.records + 1 ≤ store.now.lists.capacity }
     ensures few { IsTrue result → slots.slab_len store.now.records < 4000000000 }
 {
     let len = store.records.len();

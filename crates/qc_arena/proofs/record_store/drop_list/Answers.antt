@@ -8,8 +8,8 @@ pub invariant_of-store : goal.invariant_of-store
 invariant_of-store c =
     let r = c.remove.ensures in
     record {
-      listed = dropped_listed c.args.store.now.records c.args.store.now.lists c.remove.new.self c.args.store.now.listed c.args.node c.args.place
-          c.index_mut.result.now c.clear_edges.new.self c.index_mut.ensures.value
+      listed = dropped_listed c.args.store.now.records c.args.store.now.lists c.remove.new.self c.args.store.now.listed
+          c.args.node c.args.place c.index_mut.result.now c.clear_edges.new.self c.index_mut.ensures.value
           (subst (λ (o : Option Kept). IfSome o (λ h. h.place ≡ Some c.args.place)) c.index_mut.ensures.value
           c.requires.place) c.clear_edges.ensures r.updates r.len r.capacity;
     }
