@@ -4,6 +4,7 @@ use Rattle.std.specs.Ordering.{nat_cmp, eq_by_cmp}
 use Rattle.cube_defs.specs.Tree.{Edge}
 use Rattle.tree_laws.specs.Walk.{target_at}
 use Rattle.range_query.specs.declared.children.Child.{Child}
+use Rattle.range_query.specs.declared.children.TheConstants.{MAX_PLACES}
 
 -- no code stands twice in the list
 abbrev pub AreDistinct : List ℕ → Type 0
@@ -18,6 +19,11 @@ child_at k (x ∷ xs) = if nat_eq x.place k then Some x.node.0 else child_at k x
 pub record AreChildren (codes : List ℕ) (i : ℕ) (edges : List (Edge ℕ ℕ)) (children : List Child) : Type 0 where
   pub same : (k v : ℕ) → slice_get codes k ≡ Some v → child_at k children ≡ target_at (eq_by_cmp nat_cmp) i v edges
   pub within : (k c : ℕ) → child_at k children ≡ Some c → k < length codes
+
+-- all of them are there, and the places of the codes are numbers of 32 bits
+pub record AreRead (codes : List ℕ) (i : ℕ) (edges : List (Edge ℕ ℕ)) (children : List Child) : Type 0 where
+  pub are : AreChildren codes i edges children
+  pub places : length codes ≤ MAX_PLACES
 
 -- the child is at this place, which isn't before the first
 pub record IsFirst (from : ℕ) (children : List Child) (place child : ℕ) : Type 0 where

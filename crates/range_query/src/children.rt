@@ -3,7 +3,8 @@
 ghost use Rattle.std.specs.FinMap as map;
 ghost use Rattle.std.specs.Prelude.{IfNone, IfSome, IsSome, IsTrue, None, Some, [], false, length, slice_get, take, ℕ, ◌++◌, ◌+◌, ◌<◌, ◌≡◌, ◌≢◌, ◌≤◌, ◌∷◌};
 ghost use Rattle.qc_arena.specs.RecordReaders.{record_at};
-ghost use Rattle.range_query.specs.Children.{AreChildren, AreDistinct, IsFirst, NoneBetween};
+ghost use Rattle.range_query.specs.Children.{AreDistinct, AreRead, IsFirst, NoneBetween};
+ghost use Rattle.range_query.specs.declared.children.TheConstants.{MAX_READ};
 
 use cell_core::{Code, NodeNo, Steps};
 use qc_arena::Nodes;
@@ -27,6 +28,7 @@ pub(crate) struct Child {
 pub(crate) struct Children {
     pub(crate) items: [Child; MAX_READ as usize],
     pub(crate) len: usize,
+    ghost few: { len ≤ MAX_READ },
 }
 
 // The place of a code in a list.
@@ -80,10 +82,8 @@ impl Children {
         requires empty { self.old.len ≡ 0 }
         requires node { IsSome (map.get (T.tree tree.now) node.0) }
         requires distinct { AreDistinct codes.now }
-        ensures children { IsTrue result → AreChildren codes.now dim
+        ensures children { IsTrue result → AreRead codes.now dim
             (record_at (T.tree tree.now) node.0).edges (take self.new.len self.new.items) }
-        ensures len { self.new.len ≤ MAX_READ }
-        ensures places { IsTrue result → length codes.now ≤ MAX_PLACES }
         ensures read { IsTrue result → steps.new ≤ steps.old + (1 + length codes.now) }
         ensures left { result ≡ false → steps.new ≡ steps.old + 1 }
     {
@@ -104,7 +104,6 @@ impl Children {
 
     /// The child with the first place from one on and before an end.
     pub(crate) fn next(&self, from: u32, end: u32) -> Option<Child>
-        requires { self.now.len ≤ MAX_READ }
         ensures some { IfSome result (λ child.
             IsFirst from (take self.now.len self.now.items) child.place child.node.0) }
         ensures before { IfSome result (λ child.

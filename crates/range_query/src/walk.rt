@@ -9,11 +9,11 @@ ghost use Rattle.cell_core.specs.Entry.{IsCode};
 ghost use Rattle.cube_defs.specs.Tree.{Node};
 ghost use Rattle.qc_arena.specs.RecordReaders.{edge_of, record_at};
 ghost use Rattle.tree_laws.specs.Walk.{by_forced};
-ghost use Rattle.range_query.specs.Children.{AreChildren};
-ghost use Rattle.range_query.specs.Walk.{Finds, GoesOn, cost, entered, entry_cost, met};
+ghost use Rattle.range_query.specs.Children.{AreRead};
+ghost use Rattle.range_query.specs.Walk.{Finds, GoesOn, GoesOnWith, cost, entered, entry_cost, met};
 
 use crate::add_hit::add_hit;
-use crate::children::{Children, MAX_PLACES, MAX_READ};
+use crate::children::Children;
 use crate::{Hit, RangeRefused};
 use cell_core::{Cell, Code, Entry, NodeNo, Steps};
 use qc_arena::{Forced, Nodes};
@@ -41,6 +41,7 @@ struct Listed<'a> {
     node: NodeNo,
     dim: u8,
     codes: &'a [Code],
+    ghost small: { All IsCode codes.now },
 }
 
 // The forced child, if it is in the dimension. Without one, the walk stays at its node for Any.
@@ -100,11 +101,8 @@ fn visit_codes<T: Nodes, L: Ledger>(
     hits: &mut Vec<Hit>,
     steps: &mut Steps<L>,
 ) -> Result<(), RangeRefused>
-    requires on { GoesOn (T.width scan.now.tree.now) (T.tree scan.now.tree.now) scan.now.cells.now
-        scan.now.limit at.node.0 cell.old at.dim hits.old.items }
-    requires dim { at.dim < T.width scan.now.tree.now }
-    requires codes { slice_index_or scan.now.cells.now at.dim None ≡ Some at.codes.now }
-    requires small { All IsCode at.codes.now }
+    requires { GoesOnWith (T.width scan.now.tree.now) (T.tree scan.now.tree.now)
+        scan.now.cells.now scan.now.limit at.node.0 cell.old at.dim at.codes.now hits.old.items }
     ensures { Finds (T.width scan.now.tree.now) (T.tree scan.now.tree.now) scan.now.limit
         (λ source. met source (drop at.entry.dim scan.now.cells.now) cell.old at.entry.dim)
         (λ source. cost source (drop at.entry.dim scan.now.cells.now) cell.old at.entry.dim)
@@ -127,14 +125,9 @@ fn visit_children<T: Nodes, L: Ledger>(
     hits: &mut Vec<Hit>,
     steps: &mut Steps<L>,
 ) -> Result<(), RangeRefused>
-    requires on { GoesOn (T.width scan.now.tree.now) (T.tree scan.now.tree.now) scan.now.cells.now
-        scan.now.limit at.node.0 cell.old at.dim hits.old.items }
-    requires dim { at.dim < T.width scan.now.tree.now }
-    requires codes { slice_index_or scan.now.cells.now at.dim None ≡ Some at.codes.now }
-    requires small { All IsCode at.codes.now }
-    requires len { children.now.len ≤ MAX_READ }
-    requires places { length at.codes.now ≤ MAX_PLACES }
-    requires children { AreChildren at.codes.now at.dim
+    requires at { GoesOnWith (T.width scan.now.tree.now) (T.tree scan.now.tree.now)
+        scan.now.cells.now scan.now.limit at.node.0 cell.old at.dim at.codes.now hits.old.items }
+    requires children { AreRead at.codes.now at.dim
         (record_at (T.tree scan.now.tree.now) at.node.0).edges
         (take children.now.len children.now.items) }
     ensures { Finds (T.width scan.now.tree.now) (T.tree scan.now.tree.now) scan.now.limit
@@ -174,11 +167,8 @@ fn visit_each<T: Nodes, L: Ledger>(
     hits: &mut Vec<Hit>,
     steps: &mut Steps<L>,
 ) -> Result<(), RangeRefused>
-    requires on { GoesOn (T.width scan.now.tree.now) (T.tree scan.now.tree.now) scan.now.cells.now
-        scan.now.limit at.node.0 cell.old at.dim hits.old.items }
-    requires dim { at.dim < T.width scan.now.tree.now }
-    requires codes { slice_index_or scan.now.cells.now at.dim None ≡ Some at.codes.now }
-    requires small { All IsCode at.codes.now }
+    requires { GoesOnWith (T.width scan.now.tree.now) (T.tree scan.now.tree.now)
+        scan.now.cells.now scan.now.limit at.node.0 cell.old at.dim at.codes.now hits.old.items }
     ensures { Finds (T.width scan.now.tree.now) (T.tree scan.now.tree.now) scan.now.limit
         (λ source. met source (drop at.entry.dim scan.now.cells.now) cell.old at.entry.dim)
         (λ source. cost source (drop at.entry.dim scan.now.cells.now) cell.old at.entry.dim)

@@ -82,23 +82,23 @@ visit_children-enter-requires g t c κs within =
         (
           within.1,
           (
-            goes_on _ _ c.args.at.node.0 c.args.cell.now c.args.at.dim c.requires.on.stands c.args.scan.now.limit
-                c.args.scan.now.cells.now c.requires.dim c.requires.on.scan _ c.in-Some.child.node.0
-                (child_led _ _ c.args.at.node.0 c.args.cell.now c.args.at.dim c.requires.on.stands c.args.scan.now.limit
-                c.args.scan.now.cells.now c.requires.dim c.args.at.codes.now _ c.requires.children _ _ _
+            goes_on _ _ c.args.at.node.0 c.args.cell.now c.args.at.dim c.requires.at.on.stands c.args.scan.now.limit
+                c.args.scan.now.cells.now c.requires.at.dim c.requires.at.on.scan _ c.in-Some.child.node.0
+                (child_led _ _ c.args.at.node.0 c.args.cell.now c.args.at.dim c.requires.at.on.stands c.args.scan.now.limit
+                c.args.scan.now.cells.now c.requires.at.dim c.args.at.codes.now _ c.requires.children.are _ _ _
                 c.in-Some.ensures.some m) c.children.cell c.children.invariant.0.cell c.children.hits.items
                 c.children.invariant.0.few,
             (
               omega (
                 arith,
-                c.requires.dim,
-                c.requires.on.stands.long,
+                c.requires.at.dim,
+                c.requires.at.on.stands.long,
                 ap length c.children.invariant.0.cell,
               ),
               (
-                back_on _ _ c.args.at.node.0 c.args.cell.now c.args.at.dim c.requires.on.stands c.args.scan.now.limit
-                    c.args.scan.now.cells.now c.requires.dim _ c.children.cell c.children.invariant.0.cell,
-                c.requires.small c.in-Some.child.place 0 m,
+                back_on _ _ c.args.at.node.0 c.args.cell.now c.args.at.dim c.requires.at.on.stands c.args.scan.now.limit
+                    c.args.scan.now.cells.now c.requires.at.dim _ c.children.cell c.children.invariant.0.cell,
+                c.args.at.small c.in-Some.child.place 0 m,
               ),
             ),
           ),
@@ -108,16 +108,16 @@ visit_children-enter-requires g t c κs within =
 
 pub visit_children-returns-in-Err : goal.visit_children-returns-in-Err
 visit_children-returns-in-Err g t c =
-    child_refused _ _ c.args.at.node.0 c.args.cell.now c.args.at.dim c.requires.on.stands c.args.scan.now.limit
-    c.args.scan.now.cells.now c.requires.dim c.args.at.codes.now _ c.requires.children
-    (omega (arith, c.requires.dim, c.requires.on.scan.long)) c.requires.codes _ _ _ _ c.in-Some.ensures.some
+    child_refused _ _ c.args.at.node.0 c.args.cell.now c.args.at.dim c.requires.at.on.stands c.args.scan.now.limit
+    c.args.scan.now.cells.now c.requires.at.dim c.args.at.codes.now _ c.requires.children.are
+    (omega (arith, c.requires.at.dim, c.requires.at.on.scan.long)) c.requires.at.allowed _ _ _ _ c.in-Some.ensures.some
     c.in-Some.ensures.before (omega (arith, c.in-Some.ensures.end)) c.children.invariant.0
     c.in-Err.ensures
 
 pub visit_children-children-preserved : goal.visit_children-children-preserved
 visit_children-children-preserved g t c = (
-  child_taken _ _ c.args.at.node.0 c.args.cell.now c.args.at.dim c.requires.on.stands c.args.scan.now.limit
-      c.args.scan.now.cells.now c.requires.dim c.args.at.codes.now _ c.requires.children _ _ _
+  child_taken _ _ c.args.at.node.0 c.args.cell.now c.args.at.dim c.requires.at.on.stands c.args.scan.now.limit
+      c.args.scan.now.cells.now c.requires.at.dim c.args.at.codes.now _ c.requires.children.are _ _ _
       c.in-Some.ensures.some c.in-Some.ensures.before (omega (arith, c.in-Some.ensures.end))
       c.children.invariant.0 c.in-Ok.ensures,
   omega (arith, c.in-Some.ensures.end),
@@ -125,16 +125,16 @@ visit_children-children-preserved g t c = (
 
 pub visit_children-returns : goal.visit_children-returns
 visit_children-returns g t c =
-    children_taken _ _ c.args.at.node.0 c.args.cell.now c.args.at.dim c.requires.on.stands c.args.scan.now.limit
-    c.args.scan.now.cells.now c.requires.dim c.args.at.codes.now _ c.requires.children
-    (omega (arith, c.requires.dim, c.requires.on.scan.long)) c.requires.codes _ c.children.invariant.1
+    children_taken _ _ c.args.at.node.0 c.args.cell.now c.args.at.dim c.requires.at.on.stands c.args.scan.now.limit
+    c.args.scan.now.cells.now c.requires.at.dim c.args.at.codes.now _ c.requires.children.are
+    (omega (arith, c.requires.at.dim, c.requires.at.on.scan.long)) c.requires.at.allowed _ c.children.invariant.1
     c.in_default.ensures.none c.children.invariant.0
 
 pub visit_each-returns-in-Err : goal.visit_each-returns-in-Err
 visit_each-returns-in-Err g t c =
     taken_part _ _ c.args.at.node.0 c.args.cell.now c.args.at.dim c.requires.on.stands c.args.scan.now.limit
     c.args.scan.now.cells.now 1 c.args.at.codes.now
-    (omega (arith, c.requires.dim, c.requires.on.scan.long)) c.requires.codes 0
+    (omega (arith, c.requires.dim, c.requires.on.scan.long)) c.requires.allowed 0
     (all_searched _ _ c.args.at.node.0 c.args.cell.now c.args.at.dim c.requires.on.stands c.args.scan.now.limit
     c.args.scan.now.cells.now c.args.at.codes.now) _
     (omega (arith, c.codes-test.true)) c.codes.invariant c.in-Err.ensures
@@ -143,7 +143,7 @@ pub visit_each-returns : goal.visit_each-returns
 visit_each-returns g t c =
     taken_all _ _ c.args.at.node.0 c.args.cell.now c.args.at.dim c.requires.on.stands c.args.scan.now.limit
     c.args.scan.now.cells.now 1 c.args.at.codes.now
-    (omega (arith, c.requires.dim, c.requires.on.scan.long)) c.requires.codes 0
+    (omega (arith, c.requires.dim, c.requires.on.scan.long)) c.requires.allowed 0
     (all_searched _ _ c.args.at.node.0 c.args.cell.now c.args.at.dim c.requires.on.stands c.args.scan.now.limit
     c.args.scan.now.cells.now c.args.at.codes.now)
     (omega (arith, c.codes-test.false)) c.codes.invariant
