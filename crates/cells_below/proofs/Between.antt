@@ -24,6 +24,9 @@ use Rattle.cells_below.proofs.Ranges.{list_all_each, list_all_range}
 use Rattle.cells_below.proofs.Cells.{cell_below, cells_below, more_bits}
 use Rattle.cells_below.proofs.Minimal.{none_smaller-is}
 
+none_and : (a b : Bool) → a ≡ false → false ≡ (a && b)
+none_and a b e = sym (ap (λ x. x && b) e)
+
 module _ {A : Type 0} {eq : A → A → Bool} (law : IsEquality eq) where
   pub between : (rows : List (Row A)) (c d u : Cell A) → leq eq c d ≡ true → leq eq d u ≡ true
       → closure eq rows c ≡ Some u → closure eq rows d ≡ Some u
@@ -36,6 +39,9 @@ module _ {A : Type 0} {eq : A → A → Bool} (law : IsEquality eq) where
 module _ (source : TreeRows) (u : Cell ℕ) where
   pub closed : (c : Cell ℕ) → has_closure_in source u c ≡ true → closure (eq_by_cmp nat_cmp) source.rows c ≡ Some u
   closed c = (option_eq-is code_equality (closure (eq_by_cmp nat_cmp) source.rows c) u).0
+
+  pub open_no_bound : (m : ℕ) → closes source u m ≡ false → false ≡ bounds source u m
+  open_no_bound m e = none_and (closes source u m) _ e
 
   with_bit : (m k j : ℕ) → has_bit m k ≡ true → has_bit (turned m k) j ≡ true → has_bit m j ≡ true
   with_bit m k j e h = go (nat_eq j k) refl
@@ -97,6 +103,15 @@ module _ (source : TreeRows) (u : Cell ℕ) where
             (get_or-set_same marks m true false w ∙ sym c)
         go false e = let ne : j ≢ m = λ s. true≢false (sym (eq-eqb j m s) ∙ e) in
             get_or-set_other marks m j true false ne ∙ below j (omega arith)
+
+  -- one number more stays unmarked
+  pub unmarked_more : (marks : List Bool) (m : ℕ) → IsMarkedBefore source u marks m → is_marked marks m ≡ false
+      → closes source u m ≡ false → IsMarkedBefore source u marks (m + 1)
+  unmarked_more marks m below e c j k = go (nat_eq j m) refl
+    where
+      go : (b : Bool) → nat_eq j m ≡ b → is_marked marks j ≡ closes source u j
+      go true q = subst (λ i. is_marked marks i ≡ closes source u i) (sym (eqb-true j m q)) (e ∙ sym c)
+      go false q = let ne : j ≢ m = λ s. true≢false (sym (eq-eqb j m s) ∙ q) in below j (omega arith)
 
   pub bounds_are : (dims : ℕ) → AllByRecursion (λ row. length row.tuple ≡ dims) source.rows → length u ≡ dims
       → map (cell_of_number u) (filter (bounds source u) (range_with_len 0 (2 ^ value_count u)))

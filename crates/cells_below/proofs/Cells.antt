@@ -1,8 +1,9 @@
 -- The cells of numbers are the cells that generalize a cell, in order.
 use Rattle.std.proofs.lemmas.Nat.{pow_pos}
-use Rattle.std.proofs.Common.{◌≡◌, ℕ, suc, ◌+◌, ◌-◌, ◌*◌, ◌^◌, ◌<◌, ◌≤◌, pow-suc, Bool, true, false, Option, Some, None, [], ◌∷◌, ◌++◌, map}
-use Rattle.std.proofs.Common.{length, refl, sym, ap, ap₂, ◌∙◌, arith, true≢false}
+use Rattle.std.proofs.Common.{◌≡◌, ℕ, zero, suc, ◌+◌, ◌-◌, ◌*◌, ◌^◌, ◌<◌, ◌≤◌, pow-suc, Bool, true, false, Option, Some, None}
+use Rattle.std.proofs.Common.{[], ◌∷◌, ◌++◌, map, drop, get_or, length, set, refl, sym, ap, ap₂, ◌∙◌, arith, true≢false}
 use Rattle.std.specs.Prelude.{if◌then◌else◌, nat_eq}
+use Rattle.std.proofs.Math.Seq.{drop-cons}
 use Rattle.std.proofs.lemmas.Bool.{and_from}
 use Rattle.std.specs.Int.{bit_at}
 use Rattle.std.specs.List.{range_with_len}
@@ -10,7 +11,10 @@ use Rattle.std.proofs.lemmas.Nat.Bits.{bit_at_above, bit_at_cat_low, bit_at_cat_
 use Rattle.std.proofs.lemmas.Simd.{map-map}
 use Rattle.std.proofs.lemmas.List.{map-append}
 use Rattle.cube_defs.specs.Cell.{Cell, leq, entry_leq}
-use Rattle.cube_laws.proofs.CallerLemmas.{IsEquality, map_same}
+use Rattle.cube_laws.proofs.CallerLemmas.{IsEquality, leq_refl, map_same}
+use Rattle.cell_core.specs.Entry.{value_in}
+use Rattle.cell_core.specs.declared.cell.Entry.{Entry}
+use Rattle.cell_core.specs.declared.cell.Entry.TheVariants.{Any, Is}
 use Rattle.cube_laws.specs.Parts.{value_count}
 use Rattle.tree_laws.specs.GeneralizingCells.{below}
 use Rattle.cells_below.specs.Numbers.{cell_of_number, has_bit}
@@ -24,6 +28,19 @@ pub values-le : {A : Type 0} (u : Cell A) → value_count u ≤ length u
 values-le [] = omega arith
 values-le (None ∷ u) = let l = values-le u in omega arith
 values-le (Some v ∷ u) = let l = values-le u in omega arith
+
+-- an entry without a value
+pub no_value : (e : Entry) → ((x : ℕ) → e ≡ Is x → ⊥) → value_in e ≡ None
+no_value Any h = refl
+no_value (Is x) h = absurd (h x refl)
+
+-- the values from a dimension on
+module _ {A : Type 0} (u : Cell A) (i : ℕ) (l : i < length u) where
+  pub counted_any : get_or u i None ≡ None → value_count (drop i u) ≡ value_count (drop (suc i) u)
+  counted_any e = ap value_count (drop-cons u i None l ∙ ap (λ x. x ∷ drop (suc i) u) e)
+
+  pub counted_one : (v : A) → get_or u i None ≡ Some v → value_count (drop i u) ≡ suc (value_count (drop (suc i) u))
+  counted_one v e = ap value_count (drop-cons u i None l ∙ ap (λ x. x ∷ drop (suc i) u) e)
 
 low_bits : (d m k : ℕ) → k < d → has_bit (2 ^ d + m) k ≡ has_bit m k
 low_bits d m k l = let e : 2 ^ d + m ≡ 1 * 2 ^ d + m = omega arith in
@@ -129,13 +146,16 @@ module _ {A : Type 0} {eq : A → A → Bool} (law : IsEquality eq) where
       = and_from _ _ (entry_more (has_bit m (value_count u)) (has_bit n (value_count u)) e (h (value_count u)))
       (more_bits u m n h)
 
-  -- only the bits of values count
-  pub more_values : (u : Cell A) (m n : ℕ) → ((k : ℕ) → k < value_count u → has_bit m k ≡ true → has_bit n k ≡ true)
-      → leq eq (cell_of_number u m) (cell_of_number u n) ≡ true
-  more_values [] m n h = refl
-  more_values (None ∷ u) m n h
-      = and_from _ _ (ap₂ (entry_leq eq) (none_kept (has_bit m (value_count u)))
-      (none_kept (has_bit n (value_count u)))) (more_values u m n h)
-  more_values (Some v ∷ u) m n h
-      = and_from _ _ (entry_more (has_bit m (value_count u)) (has_bit n (value_count u)) (Some v)
-      (h (value_count u) (omega arith))) (more_values u m n (λ k l. h k (omega (arith, l))))
+  -- the cells without one of the values generalize the cell without it
+  pub below_without : (u : Cell A) (m i : ℕ) → i < length u → has_bit m (value_count (drop (suc i) u)) ≡ false
+      → leq eq (cell_of_number u m) (set u i None) ≡ true
+  below_without [] m i l h = absurd (omega arith)
+  below_without (e ∷ u) m zero l h
+      = and_from _ _ (ap (λ b. entry_leq eq (if b then e else None) None) h) (cell_below u m)
+  below_without (e ∷ u) m (suc i) l h
+      = and_from _ _ (entry_below (has_bit m (value_count u)) e) (below_without u m i (omega arith) h)
+
+  pub without_below : (u : Cell A) (i : ℕ) → leq eq (set u i None) u ≡ true
+  without_below [] i = refl
+  without_below (e ∷ u) zero = and_from _ _ refl (leq_refl law u)
+  without_below (e ∷ u) (suc i) = and_from _ _ (entry_below true e) (without_below u i)

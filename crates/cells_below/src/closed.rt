@@ -9,7 +9,7 @@ use crate::marks::Marks;
 use crate::numbers::write_cell;
 use crate::pruned::is_minimal;
 use crate::upper::UpperBound;
-use crate::without::lacks_needed_bit;
+use crate::without::has_all_bits;
 use cell_core::{Cell, Steps};
 use qc_arena::Nodes;
 use std::sync::ledger::Ledger;
@@ -105,7 +105,7 @@ pub fn bounds_at<T: Nodes, L: Ledger>(
     ensures above { (j : ℕ) → m + 1 ≤ j → is_marked marks.new j ≡ false }
     ensures steps { steps.new ≤ steps.old + (2 * length upper.now.cell.now + 2) }
 {
-    if lacks_needed_bit(m, needed, upper.values) {
+    if !has_all_bits(m, needed) {
         return false;
     }
     if !is_minimal(marks, upper.values, m) {

@@ -97,7 +97,7 @@ fn mark_all<T: Nodes, L: Ledger>(upper: &UpperBound<T>, marks: &mut Marks, steps
         + (upper.now.values + 2 ^ upper.now.values) * (2 * length upper.now.cell.now + 2) }
 {
     let mut cell = upper.cell.copy();
-    let needed = needed(upper, &mut cell, steps);
+    let needed = needed(upper, steps);
     'numbers: for m in 0..1 << upper.values {
         bounds_at(upper, needed, marks, m, &mut cell, steps);
     }

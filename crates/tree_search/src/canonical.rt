@@ -1,13 +1,15 @@
 // Readers of canonical trees.
 ghost use Rattle.std.specs.FinMap as map;
 ghost use Rattle.std.specs.Option.{option_map};
-ghost use Rattle.std.specs.Prelude.{IfSome, IsSome, Some, length, ◌*◌, ◌+◌, ◌≡◌, ◌≤◌};
+ghost use Rattle.std.specs.Prelude.{IfSome, IsSome, Some, drop, length, ◌*◌, ◌+◌, ◌≡◌, ◌≤◌};
 ghost use Rattle.cube_defs.specs.Tree.{cell_at};
+ghost use Rattle.std.specs.Ordering.{eq_by_cmp, nat_cmp};
+ghost use Rattle.tree_laws.specs.Walk.{walk};
 ghost use Rattle.qc_arena.specs.RecordReaders.{number};
 ghost use Rattle.tree_search.specs.Found.{IsNumberOfCell, IsTree, IsTreeOf, TreeRows, closure_in};
 
 use crate::climb::upper_into;
-use crate::search::find;
+use crate::search::{find, find_from};
 use aggregates::Agg;
 use cell_core::{Cell, Code, NodeNo, Steps};
 use cube_defs::MAX_DIMS;
@@ -63,6 +65,24 @@ impl<'a, T: Nodes> CanonicalTree<'a, T> {
         ensures steps { steps.new ≤ steps.old + (2 * length cell.now + 2) }
     {
         find(self.nodes, cell, steps)
+    }
+
+    /// The node that a search ends at which stands at a node before a dimension. None if no row is
+    /// left.
+    pub fn find_from<L: Ledger>(
+        &self,
+        node: NodeNo,
+        dim: u8,
+        cell: &Cell,
+        steps: &mut Steps<L>,
+    ) -> Option<NodeNo>
+        requires node { IsSome (map.get self.now.tree node.0) }
+        requires dim { dim ≤ length cell.now }
+        ensures walk { option_map number result
+            ≡ walk (eq_by_cmp nat_cmp) self.now.tree (drop dim cell.now) node.0 dim }
+        ensures steps { steps.new + 2 * dim ≤ steps.old + 2 * length cell.now }
+    {
+        find_from(self.nodes, node, dim, cell, steps)
     }
 
     /// Replaces a cell by the node's cell.

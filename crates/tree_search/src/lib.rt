@@ -9,5 +9,5 @@ mod totals;
 
 pub use canonical::CanonicalTree;
 pub use climb::upper_into;
-pub use search::{find, step};
+pub use search::{find, find_from, step};
 pub use totals::total_at;

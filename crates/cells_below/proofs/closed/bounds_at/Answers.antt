@@ -1,7 +1,8 @@
 use Rattle.std.proofs.Common.{◌≡◌, ◌^◌, ◌<◌, ◌+◌, true, false, subst, sym, arith}
 use Rattle.cells_below.specs.Closed.{IsMarkedBefore}
 use Rattle.cells_below.specs.Marks.{is_least}
-use Rattle.cells_below.proofs.Between.{is_bound, marked_more, no_bound, not_least}
+use Rattle.cells_below.proofs.Between.{is_bound, marked_more, no_bound, not_least, open_no_bound, unmarked_more}
+use Rattle.cells_below.proofs.NeededBits.{lacking}
 use Rattle.cells_below.proofs.closed.bounds_at.Goals as goal
 use Rattle.cube_laws.specs.Parts.{value_count}
 
@@ -30,3 +31,14 @@ returns-clause-value g c = λ source h.
     (subst (λ d. c.args.m < 2 ^ d) values c.requires.number) (c.requires.below source h)
     (sym (c.if-not-closes_for_number.ensures.value source h))
     (subst (λ d. is_least c.args.marks.now d c.args.m ≡ true) values (sym c.if-not-is_minimal.ensures))
+
+pub returns-then-not-has_all_bits-clause-value : goal.returns-then-not-has_all_bits-clause-value
+returns-then-not-has_all_bits-clause-value g c = λ source h.
+    open_no_bound source c.args.upper.now.cell.now c.args.m (lacking source c.args.upper.now.cell.now c.args.needed
+    c.args.m (c.requires.needed source h) (sym c.if-not-has_all_bits.ensures))
+
+pub returns-then-not-has_all_bits-clause-below : goal.returns-then-not-has_all_bits-clause-below
+returns-then-not-has_all_bits-clause-below g c = λ source h.
+    unmarked_more source c.args.upper.now.cell.now c.args.marks.now c.args.m (c.requires.below source h)
+    (c.requires.above c.args.m (omega arith)) (lacking source c.args.upper.now.cell.now c.args.needed c.args.m
+    (c.requires.needed source h) (sym c.if-not-has_all_bits.ensures))
