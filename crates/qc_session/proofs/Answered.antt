@@ -2,14 +2,13 @@
 use Rattle.std.proofs.Common.{◌≡◌, ◌≢◌, ℕ, Option, Some, None, List, refl, subst, sym, true}
 use Rattle.std.specs.Prelude.{Err, IfOk, IfSome, Ok, OnErr, OnOk, Result}
 use Rattle.std.specs.Option.{option_map}
-use Rattle.cell_core.specs.declared.fields.Field.{Field}
 use Rattle.cube_defs.specs.Text.{Text}
 use Rattle.qc_io.specs.Outside.{FileContents}
-use Rattle.query_answers.specs.Queries.{cell_of_fields, point_answer}
+use Rattle.query_answers.specs.Queries.{query_reply}
 use Rattle.query_script.specs.Commands.{command_in, query_wants}
 use Rattle.query_script.specs.Faults.{LineFault, line_fault_in}
 use Rattle.query_script.specs.Queries as queries
-use Rattle.query_script.specs.Queries.{Point, Query}
+use Rattle.query_script.specs.Queries.{Query}
 use Rattle.query_script.specs.Questions.{Ask, Question}
 use Rattle.query_script.specs.declared.line.LineRefused.{LineRefused}
 use Rattle.query_script.specs.declared.line.LineRefused.TheVariants as refusals
@@ -28,12 +27,11 @@ pub for_told : (told : Option FileContents) (P : FileContents → Type 0) → ((
 for_told None P h = tt
 for_told (Some t) P h = h t
 
--- a line that asks a point is answered by what it comes to
-pub point-is : (s : PinnedState) (line : List ℕ) (number : ℕ) (reply : List ℕ) → (asked : List Field)
-    × (command_in s.state.schema line ≡ Ok (Ask (Point asked)))
-    × (reply ≡ point_answer s.state number (cell_of_fields asked))
+-- a line that asks a query of the present rows is answered as the query is
+pub query-is : (s : PinnedState) (line : List ℕ) (number : ℕ) (reply : List ℕ) (query : Query)
+    → command_in s.state.schema line ≡ Ok (Ask query) → reply ≡ query_reply s.state number query
     → (told : FileContents) → answer s told number line ≡ Some (unchanged_with_pins s reply)
-point-is s line number reply (asked, command, e) told = rw (command, e) refl
+query-is s line number reply query command e told = rw (command, e) refl
 
 -- a reply beside a state that stays
 pub kept : (s : PinnedState) (text reply : List ℕ) → reply ≡ text

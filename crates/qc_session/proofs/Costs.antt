@@ -1,5 +1,5 @@
 -- What the lines of a script take is within what they may cost.
-use Rattle.std.proofs.Common.{◌≡◌, ◌≤◌, ◌<◌, ◌+◌, ◌*◌, ◌∙◌, ℕ, Bool, List, [], ◌∷◌, ◌++◌, length, true, false, refl}
+use Rattle.std.proofs.Common.{◌≡◌, ◌≤◌, ◌<◌, ◌+◌, ◌∙◌, ℕ, Bool, List, [], ◌∷◌, ◌++◌, length, true, false, refl}
 use Rattle.std.proofs.Common.{sym, subst, ap, arith, append-nil, map, Option, Some, None, IfSome, inl, inr}
 use Rattle.std.specs.Prelude.{IsErr, IsSomeAnd, Result, Ok, Err, OnOk, fold, nat_lt, if◌then◌else◌}
 use Rattle.std.specs.Option.{option_map}
@@ -7,7 +7,6 @@ use Rattle.std.proofs.lemmas.Bool.Decides.{nat_tests}
 use Rattle.std.proofs.lemmas.List.Sums.{fold-append}
 use Rattle.aggregates.specs.declared.kind.AggKind.{AggKind}
 use Rattle.cell_core.specs.Gives.{Gives}
-use Rattle.cell_core.specs.declared.fields.Field.{Field}
 use Rattle.csv_load.specs.Batch.{Change}
 use Rattle.csv_load.specs.Faults.{Fault}
 use Rattle.csv_load.specs.Files.{batch_in}
@@ -15,10 +14,10 @@ use Rattle.cube_defs.specs.Text.{Text}
 use Rattle.cube_defs.specs.declared.limits.TheConstants.{MAX_FILE}
 use Rattle.qc_io.specs.Outside.{FileContents}
 use Rattle.pinned_view.specs.Versions.{Version}
-use Rattle.query_answers.specs.Queries.{query_cost}
+use Rattle.query_answers.specs.Queries.{names_kind, query_cost}
 use Rattle.query_script.specs.Commands.{command_in}
 use Rattle.query_script.specs.Faults.{LineFault}
-use Rattle.query_script.specs.Queries.{Point, Query}
+use Rattle.query_script.specs.Queries.{Query}
 use Rattle.query_script.specs.Questions.{Ask, Question}
 use Rattle.warehouse.specs.Batch as batches
 use Rattle.warehouse.specs.Batch.{Applied, FileUse, Refusal, result, result_of}
@@ -175,13 +174,13 @@ fault-within None s line n fault texts_of words is read = tt
 fault-within (Some t) s line n None texts_of words is read = absurd (cc)
 fault-within (Some t) s line n (Some f) texts_of words is read = rw read (no-steps n)
 
--- a line that asks a point
-pub point-within : (told : Option FileContents) (s : PinnedState) (line : List ℕ) (from to : ℕ)
-    (Answers : List Field → Type 0)
-    → (asked : List Field) × (command_in s.state.schema line ≡ Ok (Ask (Point asked))) × Answers asked
-    → to ≤ from + (2 * length s.state.schema.dims + 3) → IfSome told (λ t. IsWithin (line_cost s t line) from to)
-point-within None s line from to Answers asks w = tt
-point-within (Some t) s line from to Answers (asked, command, answers) w = rw command w
+-- a line that asks a query of the present rows
+pub query-within : (told : Option FileContents) (s : PinnedState) (line : List ℕ) (from to : ℕ) (query : Query)
+    → command_in s.state.schema line ≡ Ok (Ask query)
+    → to ≤ from + query_cost s.state (names_kind s.state.schema) query
+    → IfSome told (λ t. IsWithin (line_cost s t line) from to)
+query-within None s line from to query command w = tt
+query-within (Some t) s line from to query command w = rw command w
 
 -- a line that is answered, skipped or passed over
 pub answered-within : (told : Option FileContents) (s : PinnedState) (skipped : List ℕ) (number : ℕ) (line : List ℕ)

@@ -13,7 +13,7 @@ use cell_core::{Steps, Text};
 use cube_defs::{MAX_FILE, Memory};
 use pinned_view::Pinned;
 use qc_io::{Files, Sink};
-use query_answers::answer_plain_point;
+use query_answers::answer_plain_cell;
 use reply_text::memory_reply;
 use std::alloc::Global;
 use std::sync::ledger::Ledger;
@@ -37,7 +37,7 @@ pub struct Session {
     pub pinned: Pinned,
     pub skipped: Vec<u32>,
     pub pending: Pending,
-    /// The reply to a point, in a buffer that the next one uses again.
+    /// The reply to a point or to `bounds`, in a buffer that the next one uses again.
     pub reply: Vec<u8>,
 }
 
@@ -151,7 +151,7 @@ fn take_line<F: Files, O: Sink, L: Ledger>(
         return Ok(());
     }
     let number = session.number + 1;
-    match answer_plain_point(
+    match answer_plain_cell(
         alloc,
         session.pinned.now(),
         number,

@@ -1,7 +1,7 @@
 mod Asked
 mod DecodedClasses
 mod Measured
-mod Pointed
+mod ReadCells
 mod Recoded
 mod RelatedSteps
 mod SomeRows

@@ -1,6 +1,6 @@
 -- What a query is answered: a filter and a sum over the rows of a state.
-use Rattle.std.specs.Prelude.{All, ℕ, ◌≡◌, ◌+◌, ◌*◌, ◌^◌, Bool, Option, Some, None, IfSome, List, length, map, slice_index_or}
-use Rattle.std.specs.Prelude.{if◌then◌else◌}
+use Rattle.std.specs.Prelude.{All, ℕ, ◌≡◌, ◌≤◌, ◌+◌, ◌*◌, ◌^◌, Bool, Option, Some, None, IfSome, List, length, map, slice_index_or}
+use Rattle.std.specs.Prelude.{if◌then◌else◌, Ok, OnOk, Result}
 use Rattle.std.specs.List.{list_any}
 use Rattle.std.specs.Ordering.{nat_cmp}
 use Rattle.aggregates.specs.declared.kind.AggKind.{AggKind as Kinds}
@@ -21,9 +21,10 @@ use Rattle.iceberg_query.specs.Costs.{tree_size}
 use Rattle.iceberg_query.specs.Indexed.{class_of_node}
 use Rattle.measure_index.specs.Index.{ranking_of}
 use Rattle.measure_index.specs.Rankings.{IsIndex, Ranking}
-use Rattle.query_script.specs.Commands.{IsCellField}
+use Rattle.query_script.specs.Commands.{IsCellField, command_in}
 use Rattle.query_script.specs.Queries as asks
 use Rattle.query_script.specs.Queries.{Query}
+use Rattle.query_script.specs.Questions as questions
 use Rattle.range_query.specs.Work.{work}
 use Rattle.reply_text.specs.Replies.{bounds_reply, iceberg_text, point_reply, range_reply, stats_text}
 use Rattle.value_dict.specs.Boxes.{fields_box}
@@ -161,3 +162,12 @@ query_cost state has_index (asks.Parents asked) = steps_of_parents state (cell_o
 query_cost state has_index (asks.Children asked) = steps_of_children state (cell_of_fields asked)
 query_cost state has_index (asks.Rollup kind bound value asked)
     = steps_of_rollup state (ask_of state.schema.measures kind bound value) (cell_of_fields asked)
+
+-- a line that asks a query of the present rows is answered, from one count of steps to another: the reply is the
+-- query's where one was made
+pub record IsAnswered {T E : Type 0} (state : State) (line : List ℕ) (number : ℕ) (done : Result T E) (reply : List ℕ)
+    (from to : ℕ) : Type 0 where
+  pub query : Query
+  pub command : command_in state.schema line ≡ Ok (questions.Ask query)
+  pub answer : OnOk done (reply ≡ query_reply state number query)
+  pub steps : to ≤ from + query_cost state (names_kind state.schema) query

@@ -5,12 +5,13 @@
 mod bounds;
 mod iceberg;
 mod lattice;
+mod plain;
 mod point;
 mod query;
 mod range;
 mod source;
 
 pub use iceberg::empty_index;
-pub use point::answer_plain_point;
+pub use plain::answer_plain_cell;
 pub use query::{answer_present, answer_query};
 pub use source::Source;

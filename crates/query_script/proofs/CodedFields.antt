@@ -1,7 +1,8 @@
 -- Fields that are read into codes.
 use Rattle.std.proofs.Common.{◌≡◌, ◌<◌, ◌+◌, ◌∙◌, ℕ, zero, suc, Bool, true, false, List, [], ◌∷◌, ◌++◌, length, get_or, set, refl, sym, ap}
-use Rattle.std.proofs.Common.{subst, arith, Some, None, Ok, IsUtf8, ◌⊎◌, inl, inr}
-use Rattle.std.specs.Prelude.{MatchOption, Option, option_map, codes}
+use Rattle.std.proofs.Common.{arith, Some, None, Ok, IsUtf8, ◌⊎◌, inl, inr}
+use Rattle.std.specs.Prelude.{MatchOption, Option, option_map}
+use Rattle.std.specs.Str.{is_utf8}
 use Rattle.std.specs.List.{list_all}
 use Rattle.std.proofs.lemmas.List.{length_push, get_or-set_other}
 use Rattle.std.proofs.lemmas.Grind.{get_or-set_at}
@@ -20,11 +21,10 @@ use Rattle.value_dict.proofs.CallerLemmas.{cell_from_entries, entry_at, no_cell_
 use Rattle.query_script.specs.Commands.{command_in, record_in}
 use Rattle.query_script.specs.Fields.{field_of, fields_from}
 use Rattle.query_script.specs.Progress.{asked_after}
-use Rattle.query_script.specs.Queries.{Point}
 use Rattle.query_script.specs.Questions.{Ask}
-use Rattle.query_script.specs.Coded.{AreCoded, AskForCell, IsCoded, IsPoint, pieces_left}
-use Rattle.query_script.specs.declared.coded.PointRead.{PointRead}
-use Rattle.query_script.specs.declared.coded.PointRead.TheVariants as coded
+use Rattle.query_script.specs.Coded.{AreCoded, AskForCell, AsksByCodes, command_start, pieces_left, query_of}
+use Rattle.query_script.specs.declared.coded.CellQuery.{CellQuery}
+use Rattle.query_script.specs.declared.coded.CellQuery.TheVariants as queries
 use Rattle.query_script.specs.declared.record.Shape.TheVariants as shapes
 use Rattle.query_script.proofs.Asking.{asks_all, asks-first, asks-more}
 use Rattle.query_script.proofs.Asked.{cell-fields}
@@ -152,20 +152,17 @@ module _ (lists : List (List Text)) (texts left : List Text) (cell : Cell ℕ) (
   fields = sym (asks-first ask (length lists) texts) ∙ sym read.asks
       ∙ ap (asked_after ask (length lists) read.before) none ∙ asks_all ask (length lists) read.before count
 
-  pub all-known : length cell ≡ length lists → known ≡ true → AskForCell lists texts (Some cell)
-  all-known long e =
-      let so_far : IsSoFar true lists read.before cell = subst (λ b. IsSoFar b lists read.before cell) e read.so_far in
-      record {
+  pub all-read : length cell ≡ length lists → AreCoded (Some known) lists texts cell
+  all-read long = by known read.so_far
+    where
+      by : (b : Bool) → IsSoFar b lists read.before cell → AreCoded (Some b) lists texts cell
+      by true so_far = record {
         asked = read.before;
         fields = fields;
         codes
             = cell_from_entries lists read.before cell count long (λ k lt. so_far k (omega (arith, count, lt)));
       }
-
-  pub one-unknown : known ≡ false → AskForCell lists texts None
-  one-unknown e =
-      let (k, lt, missing) = subst (λ b. IsSoFar b lists read.before cell) e read.so_far in
-      record {
+      by false (k, lt, missing) = record {
         asked = read.before;
         fields = fields;
         codes
@@ -174,56 +171,53 @@ module _ (lists : List (List Text)) (texts left : List Text) (cell : Cell ℕ) (
 
 -- ---- the line
 
-point-utf8 : (rest : List ℕ) → IsUtf8 rest → IsUtf8 (codes "point " ++ rest)
-point-utf8 rest u = IsUtf8-append (codes "point ") rest (IsUtf8-from_ascii (codes "point ") ascii) u
-  where
-    ascii : (i : ℕ) → get_or (codes "point ") i 0 < 128
-    ascii zero = omega arith
-    ascii (suc zero) = omega arith
-    ascii (suc (suc zero)) = omega arith
-    ascii (suc (suc (suc zero))) = omega arith
-    ascii (suc (suc (suc (suc zero)))) = omega arith
-    ascii (suc (suc (suc (suc (suc zero))))) = omega arith
-    ascii (suc (suc (suc (suc (suc (suc i)))))) = omega arith
+start-ascii : (query : CellQuery) (i : ℕ) → get_or (command_start query) i 0 < 128
+start-ascii queries.Point zero = omega arith
+start-ascii queries.Point (suc zero) = omega arith
+start-ascii queries.Point (suc (suc zero)) = omega arith
+start-ascii queries.Point (suc (suc (suc zero))) = omega arith
+start-ascii queries.Point (suc (suc (suc (suc zero)))) = omega arith
+start-ascii queries.Point (suc (suc (suc (suc (suc zero))))) = omega arith
+start-ascii queries.Point (suc (suc (suc (suc (suc (suc i)))))) = omega arith
+start-ascii queries.Bounds zero = omega arith
+start-ascii queries.Bounds (suc zero) = omega arith
+start-ascii queries.Bounds (suc (suc zero)) = omega arith
+start-ascii queries.Bounds (suc (suc (suc zero))) = omega arith
+start-ascii queries.Bounds (suc (suc (suc (suc zero)))) = omega arith
+start-ascii queries.Bounds (suc (suc (suc (suc (suc zero))))) = omega arith
+start-ascii queries.Bounds (suc (suc (suc (suc (suc (suc zero)))))) = omega arith
+start-ascii queries.Bounds (suc (suc (suc (suc (suc (suc (suc i))))))) = omega arith
+
+line-utf8 : (query : CellQuery) (rest : List ℕ) → IsUtf8 rest → is_utf8 (command_start query ++ rest) ≡ true
+line-utf8 query rest u = is_utf8-from_IsUtf8 (command_start query ++ rest)
+    (IsUtf8-append (command_start query) rest (IsUtf8-from_ascii (command_start query) (start-ascii query)) u)
 
 record-asked : (layout : Layout) (b : ℕ) (bs : List ℕ) (asked : List Field) → begins_with_mark (b ∷ bs) ≡ false
     → list_all is_plain_byte (b ∷ bs) ≡ true → fields_from ask 1 (length layout.dims) (pieces (b ∷ bs)) ≡ Ok asked
     → record_in shapes.Cell (length layout.dims) (b ∷ bs) ≡ Ok asked
 record-asked layout b bs asked mark plain e = rw (mark, plain-fields b bs plain, e) refl
 
-point-asks : (layout : Layout) (b : ℕ) (bs : List ℕ) (asked : List Field) → IsUtf8 (b ∷ bs)
-    → begins_with_mark (b ∷ bs) ≡ false → list_all is_plain_byte (b ∷ bs) ≡ true
-    → fields_from ask 1 (length layout.dims) (pieces (b ∷ bs)) ≡ Ok asked
-    → command_in layout (codes "point " ++ b ∷ bs) ≡ Ok (Ask (Point asked))
-point-asks layout b bs asked u mark plain e =
-    rw (
-      is_utf8-from_IsUtf8 (codes "point " ++ b ∷ bs) (point-utf8 (b ∷ bs) u),
-      record-asked layout b bs asked mark plain e,
-    ) refl
+query-asks : (query : CellQuery) (layout : Layout) (b : ℕ) (bs : List ℕ) (asked : List Field) → IsUtf8 (b ∷ bs)
+    → record_in shapes.Cell (length layout.dims) (b ∷ bs) ≡ Ok asked
+    → command_in layout (command_start query ++ b ∷ bs) ≡ Ok (Ask (query_of query asked))
+query-asks queries.Point layout b bs asked u e = rw (line-utf8 queries.Point (b ∷ bs) u, e) refl
+query-asks queries.Bounds layout b bs asked u e = rw (line-utf8 queries.Bounds (b ∷ bs) u, e) refl
 
-pub line-coded : (layout : Layout) (lists : List (List Text)) (line rest : List ℕ) (found : PointRead) (cell : Cell ℕ)
-    → line ≡ codes "point " ++ rest → 0 < length rest → length layout.dims ≡ length lists → IsUtf8 rest
-    → begins_with_mark rest ≡ false
-    → list_all is_plain_byte rest ≡ true → AreCoded found lists (pieces rest) cell
-    → IsCoded found layout lists line cell
-line-coded layout lists line [] found cell split some dims u mark plain h = absurd (omega arith)
-line-coded layout lists line (b ∷ bs) found cell split some dims u mark plain h = by found h
-  where
-    point : (codes : Option (Cell ℕ)) → AskForCell lists (pieces (b ∷ bs)) codes → IsPoint layout lists line codes
-    point codes h =
-        let fields : fields_from ask 1 (length layout.dims) (pieces (b ∷ bs)) ≡ Ok h.asked
-        = ap (λ n. fields_from ask 1 n (pieces (b ∷ bs))) dims ∙ h.fields in
-        let are = cell-fields (length layout.dims) (b ∷ bs) h.asked
-        (record-asked layout b bs h.asked mark plain fields) in
-        record {
-          asked = h.asked;
-          command = ap (command_in layout) split ∙ point-asks layout b bs h.asked u mark plain fields;
-          count = are.0;
-          each = are.1;
-          codes = h.codes;
-        }
-
-    by : (found : PointRead) → AreCoded found lists (pieces (b ∷ bs)) cell → IsCoded found layout lists line cell
-    by coded.Unread h = tt
-    by coded.Unknown h = point None h
-    by coded.Known h = point (Some cell) h
+pub line-coded : (query : CellQuery) (layout : Layout) (lists : List (List Text)) (line rest : List ℕ)
+    (found : Option (Cell ℕ)) → line ≡ command_start query ++ rest → 0 < length rest
+    → length layout.dims ≡ length lists → IsUtf8 rest → begins_with_mark rest ≡ false
+    → list_all is_plain_byte rest ≡ true → AskForCell lists (pieces rest) found
+    → AsksByCodes query layout lists line found
+line-coded query layout lists line [] found split some dims u mark plain h = absurd (omega arith)
+line-coded query layout lists line (b ∷ bs) found split some dims u mark plain h =
+    let fields : fields_from ask 1 (length layout.dims) (pieces (b ∷ bs)) ≡ Ok h.asked
+    = ap (λ n. fields_from ask 1 n (pieces (b ∷ bs))) dims ∙ h.fields in
+    let read = record-asked layout b bs h.asked mark plain fields in
+    let are = cell-fields (length layout.dims) (b ∷ bs) h.asked read in
+    record {
+      asked = h.asked;
+      command = ap (command_in layout) split ∙ query-asks query layout b bs h.asked u read;
+      count = are.0;
+      each = are.1;
+      codes = h.codes;
+    }

@@ -1,5 +1,5 @@
-// Points that are read into codes without a copy of their fields.
-ghost use Rattle.std.specs.Prelude.{◌≡◌, ◌≢◌, ◌≤◌, ◌<◌, ◌∷◌, ℕ, slice_index, ◌++◌, None, IfSome, IsUtf8, MatchOption, codes, false, length, slice_set};
+// Queries of a cell that are read into codes without a copy of their fields.
+ghost use Rattle.std.specs.Prelude.{◌≡◌, ◌≢◌, ◌≤◌, ◌<◌, ◌∷◌, ℕ, slice_index, ◌++◌, None, IfSome, IsUtf8, MatchOption, false, length, slice_set};
 ghost use Rattle.std.specs.Option.{option_map};
 ghost use Rattle.cell_core.specs.Entry.{IsSmall, value_in};
 ghost use Rattle.text_lines.specs.Plain.{pieces};
@@ -14,19 +14,28 @@ use qc_schema::Schema;
 use text_lines::{has_byte_order_mark, is_plain};
 use value_dict::Dict;
 
-/// The outcome of reading a line as a point.
+/// A query that is read so.
 #[derive(Clone, Copy)]
-pub enum PointRead {
-    /// Not read into codes, which is no error: the line is no point, or one that has to be read
-    /// field by field.
-    Unread,
-    /// A value of the point isn't known, so its cell covers no row.
-    Unknown,
-    /// All values are known, and the cell has their codes.
-    Known,
+pub enum CellQuery {
+    /// The aggregate of a cell.
+    Point,
+    /// The bounds of the class of a cell.
+    Bounds,
 }
 
-ghost use Rattle.query_script.specs.Coded.{AreCoded, IsCoded, pieces_left};
+/// The outcome of reading a line as a query of a cell.
+#[derive(Clone, Copy)]
+pub enum CellRead {
+    /// Not read into codes, which is no error: the line is no such query, or one that has to be
+    /// read field by field.
+    Unread,
+    /// A value of the query isn't known, so its cell covers no row.
+    Unknown(CellQuery),
+    /// All values are known, and the cell has their codes.
+    Known(CellQuery),
+}
+
+ghost use Rattle.query_script.specs.Coded.{AreCoded, IsCoded, command_start, pieces_left};
 
 // The entry that a field asks for. The outer None: the field isn't allowed. The inner None: its
 // value isn't known.
@@ -90,8 +99,9 @@ fn split_piece(text: &str) -> (&str, &str, bool)
     }
 }
 
-// Puts the codes of the pieces between commas into a cell.
-fn put_codes(dict: &Dict, text: &str, cell: &mut Cell) -> PointRead
+// Puts the codes of the pieces between commas into a cell, and says whether all are known. None: the
+// pieces have to be read field by field.
+fn put_codes(dict: &Dict, text: &str, cell: &mut Cell) -> Option<bool>
     requires { length cell.old ≡ length dict.now.lists }
     ensures coded { AreCoded result dict.now.lists (pieces text.now) cell.new }
     ensures dims { length cell.new ≡ length cell.old }
@@ -101,52 +111,50 @@ fn put_codes(dict: &Dict, text: &str, cell: &mut Cell) -> PointRead
     let mut known = true;
     'dims: for dim in 0..dict.dims() {
         if !more {
-            return PointRead::Unread;
+            return None;
         }
         let (field, behind, comma) = split_piece(left);
         let Some(found) = entry_of(dict, dim, field) else {
-            return PointRead::Unread;
+            return None;
         };
         known = put_entry(cell, dim, found, known);
         left = behind;
         more = comma;
     }
-    if more {
-        return PointRead::Unread;
-    }
-    if known {
-        PointRead::Known
-    } else {
-        PointRead::Unknown
-    }
+    if more { None } else { Some(known) }
 }
 
-// What follows the command word of a point.
-fn after_point(line: &[u8]) -> Option<&[u8]>
-    ensures { IfSome result (λ rest. line.now ≡ codes "point " ++ rest.now) }
+// The query that the command word names, and what follows the word.
+fn split_word(line: &[u8]) -> Option<(CellQuery, &[u8])>
+    ensures { IfSome result (λ found. line.now ≡ command_start found.0 ++ found.1.now) }
 {
     match line {
-        [b'p', b'o', b'i', b'n', b't', b' ', rest @ ..] => Some(rest),
+        [b'p', b'o', b'i', b'n', b't', b' ', rest @ ..] => Some((CellQuery::Point, rest)),
+        [b'b', b'o', b'u', b'n', b'd', b's', b' ', rest @ ..] => Some((CellQuery::Bounds, rest)),
         _ => None,
     }
 }
 
-/// Reads a line that is a point without quotes into the codes of its cell. It reads no line that
-/// `read_line` refuses.
-pub fn read_point_codes(schema: &Schema, dict: &Dict, line: &[u8], cell: &mut Cell) -> PointRead
+/// Reads a line that is a point or `bounds`, without quotes, into the codes of its cell. It reads
+/// no line that `read_line` refuses.
+pub fn read_cell_codes(schema: &Schema, dict: &Dict, line: &[u8], cell: &mut Cell) -> CellRead
     requires dims { length cell.old ≡ length dict.now.lists }
     requires schema { length schema.now.dims ≡ length dict.now.lists }
     ensures coded { IsCoded result schema.now dict.now.lists line.now cell.new }
     ensures dims { length cell.new ≡ length cell.old }
 {
-    let Some(rest) = after_point(line) else {
-        return PointRead::Unread;
+    let Some((query, rest)) = split_word(line) else {
+        return CellRead::Unread;
     };
     if rest.is_empty() || has_byte_order_mark(rest) {
-        return PointRead::Unread;
+        return CellRead::Unread;
     }
     match str::from_utf8(rest) {
-        Ok(text) if is_plain(text) => put_codes(dict, text, cell),
-        _ => PointRead::Unread,
+        Ok(text) if is_plain(text) => match put_codes(dict, text, cell) {
+            Some(true) => CellRead::Known(query),
+            Some(false) => CellRead::Unknown(query),
+            None => CellRead::Unread,
+        },
+        _ => CellRead::Unread,
     }
 }

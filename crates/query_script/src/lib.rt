@@ -14,6 +14,6 @@ mod rollup;
 mod values;
 mod widen;
 
-pub use coded::{PointRead, read_point_codes};
+pub use coded::{CellQuery, CellRead, read_cell_codes};
 pub use line::{Command, LineRefused, read_line};
 pub use query::Query;

@@ -8,6 +8,7 @@ ghost use Rattle.value_dict.specs.Decoded.{HasTexts, IsDecodableClass, decoded_c
 
 use crate::cells::{CodedCell, push_record_start};
 use crate::fields::push_end;
+use crate::ranges::RECORD_ROOM;
 use crate::totals::{Total, push_agg};
 use cell_core::{Cells, Memory};
 use lower_bounds::ClassHit;
@@ -87,6 +88,22 @@ fn push_classes(
     Ok(())
 }
 
+/// Appends the reply to `bounds`.
+pub fn push_bounds(
+    out: &mut Vec<u8>,
+    line: u32,
+    schema: &Schema,
+    dict: &Dict,
+    class: &ClassHit,
+) -> Result<(), Memory>
+    requires { IsDecodableClass dict.now.lists (length schema.now.measures) (hit_in class.now) }
+    ensures { OnOk result (out.new.items ≡ out.old.items ++ bounds_text line schema.now.measures
+        (decoded_class dict.now.lists (hit_in class.now))) }
+{
+    push_class(out, line, schema, dict, class)?;
+    push_end(out, line, 1)
+}
+
 /// The reply to `bounds`.
 pub fn bounds_reply(
     alloc: Global,
@@ -99,9 +116,9 @@ pub fn bounds_reply(
     ensures { IfOk result (λ reply. reply.items ≡ bounds_text line schema.now.measures
         (decoded_class dict.now.lists (hit_in class.now))) }
 {
-    let mut out = Vec::new(alloc);
-    push_class(&mut out, line, schema, dict, class)?;
-    push_end(&mut out, line, 1)?;
+    let records = class.lowers.len() as usize + 2;
+    let mut out = Vec::with_capacity(alloc, records.saturating_mul(RECORD_ROOM))?;
+    push_bounds(&mut out, line, schema, dict, class)?;
     Ok(out)
 }
 
@@ -118,7 +135,7 @@ pub fn iceberg_reply(
     ensures { IfOk result (λ reply. reply.items ≡ iceberg_text line schema.now.measures
         (decoded_classes dict.now.lists classes.now)) }
 {
-    let mut out = Vec::new(alloc);
+    let mut out = Vec::with_capacity(alloc, classes.len().saturating_mul(RECORD_ROOM))?;
     push_classes(&mut out, line, schema, dict, classes)?;
     push_end(&mut out, line, classes.len() as u64)?;
     Ok(out)

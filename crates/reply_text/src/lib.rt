@@ -11,7 +11,7 @@ mod short;
 mod totals;
 mod values;
 
-pub use classes::{bounds_reply, iceberg_reply};
+pub use classes::{bounds_reply, iceberg_reply, push_bounds};
 pub use points::{point_reply, push_point};
 pub use ranges::range_reply;
 pub use refusals::{

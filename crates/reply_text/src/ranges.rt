@@ -14,8 +14,8 @@ use range_query::Hit;
 use std::alloc::Global;
 use value_dict::Dict;
 
-// Most records are at most so long.
-const RECORD_ROOM: usize = 80;
+/// Most records are at most so long.
+pub(crate) const RECORD_ROOM: usize = 80;
 
 // The record of a cell, of which the word and the line's number are given.
 fn push_hit(

@@ -1,8 +1,8 @@
 use Rattle.std.proofs.Common.{◌+◌, ◌∙◌, ap, refl, sym}
 use Rattle.pinned_view.specs.Versions.{Versions}
 use Rattle.qc_session.specs.Pins.{pinned_state_in}
-use Rattle.qc_session.proofs.Answered.{for_told, on-ok, point-is}
-use Rattle.qc_session.proofs.Costs.{answered-within, passed-within, point-within, skipped-within}
+use Rattle.qc_session.proofs.Answered.{for_told, on-ok, query-is}
+use Rattle.qc_session.proofs.Costs.{answered-within, passed-within, query-within, skipped-within}
 use Rattle.qc_session.proofs.FlushLemmas.{handed-none}
 use Rattle.qc_session.proofs.Taken.{ends-answered, ends-memory, ends-passed, later-same, stay-same}
 use Rattle.qc_session.proofs.session.take_line.Goals as goal
@@ -22,8 +22,9 @@ pub returns-in-Some-Ok : goal.returns-in-Some-Ok
 returns-in-Some-Ok g c =
     let told = g.F.Files.told c.args.files.now in
     let taken = sym c.is_ignored.ensures ∙ c.if-is_ignored.false in
-    let point = rw (c.in-Some-Ok.field-0-is, c.now.ensures.value) at c.in-Some-Ok.ensures.answered in
-    let asked = for_told told _ (point-is (pinned_state_in c.args.session.now.pinned) c.args.line.now _ _ point) in
+    let done = rw (c.in-Some-Ok.field-0-is, c.now.ensures.value) at c.in-Some-Ok.ensures.answered in
+    let asked = for_told told _ (query-is (pinned_state_in c.args.session.now.pinned) c.args.line.now _ _ done.query
+    done.command done.answer) in
     record {
       stay = stay-same _ _ _;
       later = c.put_reply.ensures.later;
@@ -32,9 +33,9 @@ returns-in-Some-Ok g c =
           (rw c.deref.ensures.value at c.put_reply.ensures.puts);
       steps = on-ok c.put_reply.result _ (answered-within told (pinned_state_in c.args.session.now.pinned)
           c.args.session.now.skipped.items (c.args.session.now.number + 1) c.args.line.now c.args.steps.now
-          c.answer_plain_point.new.steps taken
-          (point-within told (pinned_state_in c.args.session.now.pinned) c.args.line.now c.args.steps.now
-          c.answer_plain_point.new.steps _ point (rw c.now.ensures.value at c.in-Some-Ok.ensures.steps)));
+          c.answer_plain_cell.new.steps taken
+          (query-within told (pinned_state_in c.args.session.now.pinned) c.args.line.now c.args.steps.now
+          c.answer_plain_cell.new.steps done.query done.command done.steps));
     }
 
 pub returns-in-Some-Err : goal.returns-in-Some-Err
@@ -49,7 +50,7 @@ returns-in-Some-Err g c =
           (ap (λ (v : Versions). pinned_state_in v) skip.kept.1)
           (handed-none c.args.session.now.pending (g.O.Sink.taken c.args.out.now)) (λ b. b) skip.puts;
       steps = on-ok c.skip_line.result _ (skipped-within (g.F.Files.told c.args.files.now)
-          (pinned_state_in c.args.session.now.pinned) _ _ _ c.args.line.now c.args.steps.now c.answer_plain_point.new.steps taken
+          (pinned_state_in c.args.session.now.pinned) _ _ _ c.args.line.now c.args.steps.now c.answer_plain_cell.new.steps taken
           skip.skipped);
     }
 

@@ -1,5 +1,5 @@
 use Rattle.std.proofs.Common.{◌∙◌, refl, rules, arith}
-use Rattle.query_script.proofs.CodedFields.{all-known, none-read, one-more, one-unknown}
+use Rattle.query_script.proofs.CodedFields.{all-read, none-read, one-more}
 use Rattle.query_script.proofs.coded.put_codes.Goals as goal
 
 pub dims-init : goal.dims-init
@@ -18,14 +18,8 @@ dims-preserved c = record {
   text = c.split_piece-comma.ensures.utf8;
 }
 
-pub returns-then-known-clause-coded : goal.returns-then-known-clause-coded
-returns-then-known-clause-coded c =
-    all-known c.args.dict.now.lists _ _ c.dims.cell c.dims.dim c.dims.known c.dims.invariant.read
+pub returns-else-more-clause-coded : goal.returns-else-more-clause-coded
+returns-else-more-clause-coded c =
+    all-read c.args.dict.now.lists _ _ c.dims.cell c.dims.dim c.dims.known c.dims.invariant.read
     (rw c.if-more.false refl) (omega (arith, c.dims-dim-end.ensures.value, c.dims.auto.dim-end, c.dims-test.false))
-    c.dims.invariant.dims c.if-known.true
-
-pub returns-else-known-clause-coded : goal.returns-else-known-clause-coded
-returns-else-known-clause-coded c =
-    one-unknown c.args.dict.now.lists _ _ c.dims.cell c.dims.dim c.dims.known c.dims.invariant.read
-    (rw c.if-more.false refl) (omega (arith, c.dims-dim-end.ensures.value, c.dims.auto.dim-end, c.dims-test.false))
-    c.if-known.false
+    c.dims.invariant.dims
