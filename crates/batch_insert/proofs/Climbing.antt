@@ -196,11 +196,11 @@ target_old t a ready wide m own (Some k) h e = record {
 }
 
 -- the next prefix of the old closure has another value than t
-pub shares_moved : (t : Cell ℕ) (a : Arena) (wide : length t ≡ a.width) (c : Case t a) (p : Cell ℕ) (i m v w : ℕ)
+pub shares_moved : {t : Cell ℕ} {a : Arena} (c : Case t a) (p : Cell ℕ) (i m v w : ℕ)
     (k n : NodeNo) → mask p ≡ m → slice_index_or t i None ≡ Some v → w ≢ v → IsChain c p i (Some k)
     → IsNext c p i (Some (w, n)) → IsPrefix c p (suc i) → Shares t a.now m false n.0
-shares_moved t a wide c p i m v w k n masked at o leads next front =
-    let s = chain_some t a wide c p i k leads in
+shares_moved {t = t} c p i m v w k n masked at o leads next front =
+    let s = chain_some c p i k leads in
     let x = next s.0 s.1 in
     let met : cell_prefix (suc i) (meet (eq_by_cmp nat_cmp) t s.0) ≡ p
     = ap (λ y. cell_prefix (suc i) (meet_after (eq_by_cmp nat_cmp) t y)) (sym s.1) ∙ front in
@@ -227,14 +227,15 @@ values_are [] full = refl
 values_are (None ∷ t) full = absurd (true≢false (sym (full 0 None (omega arith))))
 values_are (Some v ∷ t) full = ap (λ x. Some v ∷ x) (values_are t (λ j d k. full (suc j) d (omega arith)))
 
-pub some_case : (t : Cell ℕ) (a : Arena) → All (λ e. is_some e ≡ true) t → IsTree a.width a.now → Case t a
-some_case t a full tree
+pub some_case : (t : Cell ℕ) (a : Arena) → length t ≡ a.width → All (λ e. is_some e ≡ true) t → IsTree a.width a.now → Case t a
+some_case t a wide full tree
     = record {
       measures = tree.0.measures;
       xs = [];
       row = record { id = 0; tuple = values t; amounts = [] };
       ys = tree.0.rows;
       tuple = values_are t full;
+      wide = wide;
       from = tree.1;
     }
 
@@ -246,8 +247,8 @@ pub shares_next : (t : Cell ℕ) (a : Arena) (wide : length t ≡ a.width) → A
 shares_next t a wide full ready p i m v w k n masked at o leads next front =
     let is : IsSome (map.get a.now n.0) × (mask (meet nat_eq (record_at a.now n.0).cell t) ≡ m)
     × (leq nat_eq (record_at a.now n.0).cell t ≡ false) = ∥∥₁_elim ready.tree (hlevel props) (λ s.
-    let c = some_case t a full s in
-    let shares = shares_moved t a wide c p i m v w k n masked at o (leads c) (next c) (front c) in
+    let c = some_case t a wide full s in
+    let shares = shares_moved c p i m v w k n masked at o (leads c) (next c) (front c) in
     let found = record_shares t a n.0 m false shares in
     (there a.now n.0 shares.cell shares.at, found.0, found.1)) in
     record { cell = (record_at a.now n.0).cell; at = cell_there a.now n.0 is.0; common = is.1; below = is.2 }

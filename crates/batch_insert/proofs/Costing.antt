@@ -84,13 +84,13 @@ cond_le : (r : Bool) (w : ℕ) → cond r w 0 ≤ w
 cond_le true w = omega arith
 cond_le false w = omega arith
 
-module _ (t : Cell ℕ) (a : Arena) (wide : length t ≡ a.width) (c : Case t a) where
+module _ {t : Cell ℕ} {a : Arena} (c : Case t a) where
   -- a node that generalizes t
   listed : (p : Cell ℕ) → IsPrefix c p (depth p) → Among p (nodes_with c)
   listed p front =
       among_filter (λ q. leq (eq_by_cmp nat_cmp) q t) p (nodes nat_cmp (c.xs ++ c.row ∷ c.ys))
-      ((nodes-is nat_cmp_total finmap.nat_cmp-IsAntisymmetric a.width (c.xs ++ c.row ∷ c.ys) (rows_wide t a wide c) p).1
-      (node_of_prefix t a wide c p front)) (prefix_leq t a wide c p (depth p) front)
+      ((nodes-is nat_cmp_total finmap.nat_cmp-IsAntisymmetric a.width (c.xs ++ c.row ∷ c.ys) (rows_wide c) p).1
+      (node_of_prefix c p front)) (prefix_leq c p (depth p) front)
 
   -- what it costs is within what all cost whose prefix it is
   pub own_cost : (p : Cell ℕ) (i : ℕ) → IsPrefix c p (depth p) → depth p ≤ i → weight c p ≤ generalizing_cost c p i
@@ -138,17 +138,17 @@ module _ (t : Cell ℕ) (a : Arena) (wide : length t ≡ a.width) (c : Case t a)
   copy_within x is =
       let r = cell_record a.now x.from.0 (cell_prefix is.dim is.upper) is.from in
       let le = no_more r.0.edges new
-      (ascending r.0.edges (source_rises t a wide c is.node is.upper is.dim is.front is.closure x.from.0 r.0 r.1
+      (ascending r.0.edges (source_rises c is.node is.upper is.dim is.front is.closure x.from.0 r.0 r.1
       r.2)) (λ y m. has r.0 r.1 r.2 y m) in
       let same : length (record_at a.now x.from.0).edges ≡ length r.0.edges
       = ap (λ (n : Known). length n.edges) (record_known a.now x.from.0 r.0 r.1) in
       let here : edges_at c is.node ≡ length new
       = ap edges_of (ap (option_map (λ u. record_of nat_cmp 0 (c.xs ++ c.row ∷ c.ys) is.node u))
-      (new_is t a wide c is.node front)) in
+      (new_is c is.node front)) in
       omega (arith, le, same, here)
     where
       front : IsPrefix c is.node (depth is.node)
-      front = prefix_before t a wide c is.node (depth is.node) is.dim (prefix_deep t a wide c is.node is.dim is.front)
+      front = prefix_before c is.node (depth is.node) is.dim (prefix_deep c is.node is.dim is.front)
           (omega arith) is.front
 
       new : List (Edge ℕ (Cell ℕ))
@@ -157,23 +157,23 @@ module _ (t : Cell ℕ) (a : Arena) (wide : length t ≡ a.width) (c : Case t a)
       has : (r : Known) → finmap.get a.now x.from.0 ≡ Some r → r.cell ≡ cell_prefix is.dim is.upper → (y : Edge ℕ ℕ)
           → Among y r.edges → (z : Edge ℕ (Cell ℕ)) × Among z new × (y.dim ≡ z.dim) × (y.value ≡ z.value)
       has r g cell y m =
-          let l = source_label t a wide c is.node is.upper is.dim is.front is.closure x.from.0 r g cell y m in
+          let l = source_label c is.node is.upper is.dim is.front is.closure x.from.0 r g cell y m in
           let to : (q : Cell ℕ) × (new_lead c is.node y.dim y.value ≡ Some q)
-          = elim (led_or_own t a wide c is.node y.dim y.value l.1 l.0) [
+          = elim (led_or_own c is.node y.dim y.value l.1 l.0) [
             | inl e ↦ (l.2, e ∙ l.4)
-            | inr e ↦ (_, led_own t a wide c is.node y.dim y.value l.1 l.0 e)
+            | inr e ↦ (_, led_own c is.node y.dim y.value l.1 l.0 e)
           ] in (
             record { dim = y.dim; value = y.value; target = to.0 },
             (edges-are nat_cmp_total finmap.nat_cmp-IsAntisymmetric 0 (c.xs ++ c.row ∷ c.ys) is.node
-                (new_closure c is.node) (new_is t a wide c is.node front) front
+                (new_closure c is.node) (new_is c is.node front) front
                 (record { dim = y.dim; value = y.value; target = to.0 })).1
                 (record {
                   place = record {
-                    behind = prefix_deep t a wide c is.node y.dim l.1;
+                    behind = prefix_deep c is.node y.dim l.1;
                     before
-                        = next_prefix t a wide c is.node front y.dim l.0 l.1;
+                        = next_prefix c is.node front y.dim l.0 l.1;
                     within
-                        = omega (arith, l.0, prefix_long t a wide c is.node y.dim l.1);
+                        = omega (arith, l.0, prefix_long c is.node y.dim l.1);
                   };
                   leads = to.1;
                 }),
@@ -235,7 +235,7 @@ module _ (t : Cell ℕ) (a : Arena) (wide : length t ≡ a.width) (c : Case t a)
   there : (q : Cell ℕ) → Among q (nodes nat_cmp table) → (r : Node ℕ (Cell ℕ)) × (node_of nat_cmp 0 table q ≡ Some r)
       × (r.cell ≡ q)
   there q m =
-      let node = (nodes-is nat_cmp_total finmap.nat_cmp-IsAntisymmetric a.width table (rows_wide t a wide c) q).0 m in
+      let node = (nodes-is nat_cmp_total finmap.nat_cmp-IsAntisymmetric a.width table (rows_wide c) q).0 m in
       let u = node_closed code_equality table q node in
       (record_of nat_cmp 0 table q u.0, ap (option_map (λ u. record_of nat_cmp 0 table q u)) u.1, refl)
 

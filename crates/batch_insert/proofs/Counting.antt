@@ -57,10 +57,10 @@ module _ (rows : List (Row ℕ)) (dims : ℕ) (wide : AllByRecursion (λ row. le
       ∙ sym (length-map (numbers.entries b) (λ e. e.1.cell)) in
       omega (arith, le, one, all, many)
 
-module _ (t : Cell ℕ) (a : Arena) (wide : length t ≡ a.width) (c : Case t a) where
+module _ {t : Cell ℕ} {a : Arena} (c : Case t a) where
   pub rows_wide : AllByRecursion (λ row. length row.tuple ≡ a.width) (c.xs ++ c.row ∷ c.ys)
   rows_wide = all_more (λ row. length row.tuple ≡ a.width) c.xs c.ys c.row c.from.wide (sym (length-cell_of c.row.tuple)
-      ∙ ap length c.tuple ∙ wide)
+      ∙ ap length c.tuple ∙ c.wide)
 
   module _ (b : Tree ℕ) (f : ℕ → Option ℕ) (begun : IsBegun c b f) (p : Cell ℕ) (front : IsPrefix c p (depth p))
       (none : f (mask p) ≡ None) (new : (k : ℕ) → cell_at a.now k ≢ Some p) where
@@ -69,7 +69,7 @@ module _ (t : Cell ℕ) (a : Arena) (wide : length t ≡ a.width) (c : Case t a)
     each k n h = elim (begun.left k n h) [
       | inl old ↦ node-insert code_equality c.xs c.row c.ys n.cell (c.from.canonical.each k n old).0
       | inr numbered ↦ let q = begun.nodes (mask n.cell) k numbered in
-          node_of_prefix t a wide c n.cell
+          node_of_prefix c n.cell
           (subst (λ x. IsPrefix c x (depth x)) (some_same (sym q.1 ∙ cell_known b k n h)) q.3)
     ]
 
@@ -102,7 +102,7 @@ module _ (t : Cell ℕ) (a : Arena) (wide : length t ≡ a.width) (c : Case t a)
         ]
 
     pub more_nodes : numbers.len b < new_nodes c
-    more_nodes = fewer (c.xs ++ c.row ∷ c.ys) a.width rows_wide b each once p (node_of_prefix t a wide c p front) apart
+    more_nodes = fewer (c.xs ++ c.row ∷ c.ys) a.width rows_wide b each once p (node_of_prefix c p front) apart
 
   -- a spot that comes, and the root
   pub spot_more : (b : Tree ℕ) (f : ℕ → Option ℕ) (s : PlannedNode) (max : ℕ) → IsBegun c b f → f s.mask ≡ None
@@ -115,8 +115,8 @@ module _ (t : Cell ℕ) (a : Arena) (wide : length t ≡ a.width) (c : Case t a)
   pub top_more : (max : ℕ) → ((k : ℕ) → cell_at a.now k ≢ Some (replicate a.width None)) → numbers.len a.now ≡ max
       → max < new_nodes c
   top_more max new full =
-      let m = more_nodes a.now (λ _. None) (not_begun t a wide c (λ _. None) (λ _. refl)) (replicate a.width None)
-      (flat_prefix t a wide c (λ _. None) (λ _. refl)) refl new in
+      let m = more_nodes a.now (λ _. None) (not_begun c (λ _. None) (λ _. refl)) (replicate a.width None)
+      (flat_prefix c (λ _. None) (λ _. refl)) refl new in
       omega (arith, m, full)
 
 -- the nodes of a canonical tree

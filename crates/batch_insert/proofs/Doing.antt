@@ -53,20 +53,20 @@ copied_stays c b d f x stay h = (h.0, h.1, λ i v l. stay h.0 i v (h.2 i v l))
 
 module _ (t : Cell ℕ) (f : ℕ → Option ℕ) (b : Tree ℕ) where
   pub copied_none : HaveCopied t f [] b b
-  copied_none a c wide stage are = (stage, λ k i v h. h, λ x m. absurd m)
+  copied_none a c stage are = (stage, λ k i v h. h, λ x m. absurd m)
 
   pub set_none : HaveSet t f [] b b
-  set_none a c wide stage are = (stage, λ k i v h. h, λ x m. absurd m, λ y is h. h)
+  set_none a c stage are = (stage, λ k i v h. h, λ x m. absurd m, λ y is h. h)
 
   pub ended_none : (amounts : List ℤ) → HaveEnded t amounts f [] b b
-  ended_none amounts a c wide same many stage are = (stage, λ k. refl, λ x m. absurd m, λ y h. h)
+  ended_none amounts a c same many stage are = (stage, λ k. refl, λ x m. absurd m, λ y h. h)
 
   module _ (d e : Tree ℕ) where
     copied_then : (xs : List LabelCopy) (x : LabelCopy) → HaveCopied t f xs b d → HaveCopied t f (x ∷ []) d e
         → HaveCopied t f (xs ++ x ∷ []) b e
-    copied_then xs x one two a c wide stage are =
-        let p = one a c wide stage (λ y m. are y ((among_append y xs (x ∷ [])).1 (inl m))) in
-        let q = two a c wide p.0 (λ y m. are y ((among_append y xs (x ∷ [])).1 (inr m))) in (
+    copied_then xs x one two a c stage are =
+        let p = one a c stage (λ y m. are y ((among_append y xs (x ∷ [])).1 (inl m))) in
+        let q = two a c p.0 (λ y m. are y ((among_append y xs (x ∷ [])).1 (inr m))) in (
           q.0,
           λ k i v h. q.1 k i v (p.1 k i v h),
           λ y m. elim ((among_append y xs (x ∷ [])).0 m) [
@@ -83,9 +83,9 @@ module _ (t : Cell ℕ) (f : ℕ → Option ℕ) (b : Tree ℕ) where
 
     set_then : (xs : List TupleLabel) (x : TupleLabel) → HaveSet t f xs b d → HaveSet t f (x ∷ []) d e
         → HaveSet t f (xs ++ x ∷ []) b e
-    set_then xs x one two a c wide stage are =
-        let p = one a c wide stage (λ y m. are y ((among_append y xs (x ∷ [])).1 (inl m))) in
-        let q = two a c wide p.0 (λ y m. are y ((among_append y xs (x ∷ [])).1 (inr m))) in (
+    set_then xs x one two a c stage are =
+        let p = one a c stage (λ y m. are y ((among_append y xs (x ∷ [])).1 (inl m))) in
+        let q = two a c p.0 (λ y m. are y ((among_append y xs (x ∷ [])).1 (inr m))) in (
           q.0,
           λ k i v h. q.1 k i v (p.1 k i v h),
           λ y m. elim ((among_append y xs (x ∷ [])).0 m) [
@@ -102,9 +102,9 @@ module _ (t : Cell ℕ) (f : ℕ → Option ℕ) (b : Tree ℕ) where
 
     ended_then : (amounts : List ℤ) (xs : List NodeKind) (x : NodeKind) → HaveEnded t amounts f xs b d
         → HaveEnded t amounts f (x ∷ []) d e → HaveEnded t amounts f (xs ++ x ∷ []) b e
-    ended_then amounts xs x one two a c wide same many stage are =
-        let p = one a c wide same many stage (λ y m. are y ((among_append y xs (x ∷ [])).1 (inl m))) in
-        let q = two a c wide same many p.0 (λ y m. are y ((among_append y xs (x ∷ [])).1 (inr m))) in (
+    ended_then amounts xs x one two a c same many stage are =
+        let p = one a c same many stage (λ y m. are y ((among_append y xs (x ∷ [])).1 (inl m))) in
+        let q = two a c same many p.0 (λ y m. are y ((among_append y xs (x ∷ [])).1 (inr m))) in (
           q.0,
           λ k. q.1 k ∙ p.1 k,
           λ y m. elim ((among_append y xs (x ∷ [])).0 m) [
@@ -122,19 +122,19 @@ module _ (t : Cell ℕ) (f : ℕ → Option ℕ) (b : Tree ℕ) where
         (ended_then amounts (take k xs) (get_or xs k z) one two)
 
 -- the whole plan
-module _ (t : Cell ℕ) (a : Arena) (wide : length t ≡ a.width) (c : Case t a) (plan : Plan) (parts : IsPlan t a plan)
+module _ {t : Cell ℕ} {a : Arena} (c : Case t a) (plan : Plan) (parts : IsPlan t a plan)
     (has : HasAll c plan (replicate (length t) None) 0) (f : ℕ → Option ℕ) (b : Tree ℕ) where
   pub every_number : IsSome (f 0) → ((s : PlannedNode) → Among s plan.planned_nodes.items → IsSome (f s.mask))
       → (q : Cell ℕ) → IsPrefix c q (depth q) → IsSome (f (mask q))
   every_number top planned_nodes q front
-      = elim (has q front (cell_prefix_none q (length t) (prefix_long t a wide c q (depth q) front))).spot [
+      = elim (has q front (cell_prefix_none q (length t) (prefix_long c q (depth q) front))).spot [
         | inl flat ↦ subst (λ m. IsSome (f m)) (sym (flat_mask q flat)) top
         | inr s ↦ subst (λ m. IsSome (f m)) s.2 (planned_nodes s.0 s.1)
       ]
 
   pub stage_is : IsBegun c b f → IsSome (f 0)
       → ((s : PlannedNode) → Among s plan.planned_nodes.items → IsSome (f s.mask)) → IsStage c b f
-  stage_is begun top planned_nodes = begun_stage t a wide c b f begun (every_number top planned_nodes)
+  stage_is begun top planned_nodes = begun_stage c b f begun (every_number top planned_nodes)
 
   pub all_done : (amounts : List ℤ) (e : Arena) → IsBegun c b f → IsSome (f 0)
       → ((s : PlannedNode) → Among s plan.planned_nodes.items → IsSome (f s.mask)) → c.row.amounts ≡ amounts
@@ -142,16 +142,16 @@ module _ (t : Cell ℕ) (a : Arena) (wide : length t ≡ a.width) (c : Case t a)
       → IsDone t amounts f plan b e.now → KeepsNodes t a e → IsClosed e
       → IsTreeOf a.width e.now (record { measures = c.measures; rows = c.xs ++ c.row ∷ c.ys })
   all_done amounts e begun top planned_nodes same many done keeps shut =
-      let start = begun_stage t a wide c b f begun (every_number top planned_nodes) in
+      let start = begun_stage c b f begun (every_number top planned_nodes) in
       let tuple_labels : (x : TupleLabel) → Among x plan.tuple_labels.items → IsTupleLabelOf c x
       = λ x m. all_among (λ y. (c : Case t a)
       → IsTupleLabelOf c y) plan.tuple_labels.items parts.owns_right x m c in
-      let p = done.2 a c wide start
+      let p = done.2 a c start
       (λ x m. all_among (λ y. (c : Case t a) → IsCopyOf c y) plan.copies.items parts.copies_right x m c) in
-      let q = done.3 a c wide p.0 tuple_labels in
-      let r = done.4 a c wide same many q.0
+      let q = done.3 a c p.0 tuple_labels in
+      let r = done.4 a c same many q.0
       (λ x m. all_among (λ y. (c : Case t a) → IsEndFor c y) plan.ends.items parts.ends_right x m c) in
-      finished t a wide c plan has tuple_labels f e keeps r.0 shut
+      finished c plan has tuple_labels f e keeps r.0 shut
       (λ x m. let h = copied_stays c done.0 done.1 f x q.1 (p.2 x m) in
       (h.0, h.1, λ i v l. subst (λ es. HasLabel i v es) (sym (r.1 h.0)) (h.2 i v l)))
       (λ x m. set_stays t done.1 e.now f x r.1 (q.2 x m))

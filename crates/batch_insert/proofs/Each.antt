@@ -40,38 +40,38 @@ one_among P x h y (inr e) = absurd e
 
 module _ (t : Cell ℕ) (f : ℕ → Option ℕ) (b : Tree ℕ) where
   pub one_self : (x : LabelCopy) (k : ℕ) → f x.mask ≡ Some k → x.from.0 ≡ k → HaveCopied t f (x ∷ []) b b
-  one_self x k number e a c wide stage are =
-      let r = copied_self t a wide c f b stage x (are x (inl refl)) k number e in
+  one_self x k number e a c stage are =
+      let r = copied_self c f b stage x (are x (inl refl)) k number e in
       (r.0, r.1, one_among (IsCopied c b f) x r.2)
 
   pub copy_steps : (x : LabelCopy) (k : ℕ) (old new : ℕ) → f x.mask ≡ Some k → x.from.0 ≢ k
       → new ≤ old + (1 + 2 * length (record_at b x.from.0).edges)
-      → (a : Arena) (c : Case t a) → length t ≡ a.width → IsStage c b f → IsCopyOf c x → new ≤ old + copy_cost a.now x
-  copy_steps x k old new number off le a c wide stage is = let same
-      = ap (λ es. length es) (source_edges t a wide c f b stage x is k number off) in omega (arith, le, same)
+      → (a : Arena) (c : Case t a) → IsStage c b f → IsCopyOf c x → new ≤ old + copy_cost a.now x
+  copy_steps x k old new number off le a c stage is = let same
+      = ap (λ es. length es) (source_edges c f b stage x is k number off) in omega (arith, le, same)
 
   module _ (d : Tree ℕ) where
     pub one_copied : (x : LabelCopy) (k : ℕ) → f x.mask ≡ Some k → x.from.0 ≢ k
         → map.get d k ≡ option_map (with_edges (record_at b x.from.0).edges) (map.get b k)
         → ((q : ℕ) → q ≢ k → map.get d q ≡ map.get b q) → HaveCopied t f (x ∷ []) b d
-    one_copied x k number off here others a c wide stage are =
-        let r = copied t a wide c f b stage x (are x (inl refl)) k number d off here others in
+    one_copied x k number off here others a c stage are =
+        let r = copied c f b stage x (are x (inl refl)) k number d off here others in
         (r.0, r.1, one_among (IsCopied c d f) x r.2)
 
     pub one_set : (x : TupleLabel) (k l v : ℕ) → f x.mask ≡ Some k → f x.target ≡ Some l
         → slice_index_or t x.dim None ≡ Some v
         → map.get d k ≡ option_map (with_edge (record { dim = x.dim; value = v; target = l })) (map.get b k)
         → ((q : ℕ) → q ≢ k → map.get d q ≡ map.get b q) → HaveSet t f (x ∷ []) b d
-    one_set x k l v number target value here others a c wide stage are =
-        let r = owned t a wide c f b d stage x (are x (inl refl)) k l v number target value here others in
+    one_set x k l v number target value here others a c stage are =
+        let r = owned c f b d stage x (are x (inl refl)) k l v number target value here others in
         (r.0, r.1, one_among (IsSet t d f) x r.2, r.3)
 
     pub one_forced : (amounts : List ℤ) (x : NodeKind) (g : ForcedChild) (k l v : ℕ) → x.forced ≡ Some g
         → f x.mask ≡ Some k → f g.child ≡ Some l → slice_index_or t g.dim None ≡ Some v
         → map.get d k ≡ option_map (with_forced (Some (record { dim = g.dim; value = v; target = l }))) (map.get b k)
         → ((q : ℕ) → q ≢ k → map.get d q ≡ map.get b q) → HaveEnded t amounts f (x ∷ []) b d
-    one_forced amounts x g k l v forced number child value here others a c wide same many stage are =
-        let r = ended_forced t a wide c f b stage x (are x (inl refl)) k number d g l v forced child value
+    one_forced amounts x g k l v forced number child value here others a c same many stage are =
+        let r = ended_forced c f b stage x (are x (inl refl)) k number d g l v forced child value
         here others in
         (r.0, r.1, one_among (IsEnded c d f) x r.2, r.3)
 
@@ -79,15 +79,15 @@ module _ (t : Cell ℕ) (f : ℕ → Option ℕ) (b : Tree ℕ) where
         → s ≡ sum_with (option_map agg_in x.before) (agg_of_row amounts)
         → map.get d k ≡ option_map (with_class (Some s)) (option_map (with_forced None) (map.get b k))
         → ((q : ℕ) → q ≢ k → map.get d q ≡ map.get b q) → HaveEnded t amounts f (x ∷ []) b d
-    one_class amounts x k s none number sum here others a c wide same many stage are =
+    one_class amounts x k s none number sum here others a c same many stage are =
         let is = are x (inl refl) in
-        let r = ended_class t a wide c f b stage x is k number d s none (λ whole. sum
-        ∙ sum_is t a wide c is.node (length t) amounts x.before whole same many
+        let r = ended_class c f b stage x is k number d s none (λ whole. sum
+        ∙ sum_is c is.node (length t) amounts x.before whole same many
         (subst (λ o. IsLast c is.node o x.before) none is.last).1) here others in
         (r.0, r.1, one_among (IsEnded c d f) x r.2, r.3)
 
 -- the root
-module _ (t : Cell ℕ) (a : Arena) (wide : length t ≡ a.width) (c : Case t a) (f : ℕ → Option ℕ) (none : (m : ℕ)
+module _ {t : Cell ℕ} {a : Arena} (c : Case t a) (f : ℕ → Option ℕ) (none : (m : ℕ)
     → f m ≡ None) where
   no_number : {X : Type 0} (m k : ℕ) → f m ≡ Some k → X
   no_number m k h = absurd (both (sym (none m) ∙ h))
@@ -106,22 +106,22 @@ module _ (t : Cell ℕ) (a : Arena) (wide : length t ≡ a.width) (c : Case t a)
 
   pub flat_prefix : IsPrefix c (replicate a.width None) (depth (replicate {A = Option ℕ} a.width None))
   flat_prefix = subst (IsPrefix c (replicate a.width None)) (sym (depth-any a.width))
-      (root_prefix t a wide c (replicate a.width None) refl)
+      (root_prefix c (replicate a.width None) refl)
 
   module _ (g : ℕ → Option ℕ) (k : ℕ) (more : (q : ℕ) → g q ≡ (if nat_eq 0 q then Some k else f q)) where
     pub top_was : IsOld t a.now 0 k → IsBegun c a.now g
     top_was is =
         let flat : is.cell ≡ replicate a.width None
-        = same_mask is.cell (replicate a.width None) t is.below (any_below a.width t (sym wide)) (is.long ∙ wide
+        = same_mask is.cell (replicate a.width None) t is.below (any_below a.width t (sym c.wide)) (is.long ∙ c.wide
         ∙ sym (length-replicate a.width None)) (is.dims ∙ sym (any_mask a.width)) in
-        begun_old t a wide c a.now f g (replicate a.width None) 0 k not_begun (none 0) more flat_prefix
+        begun_old c a.now f g (replicate a.width None) 0 k not_begun (none 0) more flat_prefix
         (any_mask a.width) (is.at ∙ ap (λ x. Some x) flat)
 
     pub top_new : (d : Tree ℕ) → ((l : ℕ) → cell_at a.now l ≢ Some (replicate a.width None)) → map.get a.now k ≡ None
         → map.get d k ≡ Some (new_record a.width a.now None) → ((q : ℕ) → q ≢ k → map.get d q ≡ map.get a.now q)
         → IsBegun c d g
     top_new d new free here others =
-        begun_new t a wide c a.now f g (replicate a.width None) 0 k not_begun (none 0) more flat_prefix
+        begun_new c a.now f g (replicate a.width None) 0 k not_begun (none 0) more flat_prefix
         (any_mask a.width) d (new_record a.width a.now None) free here others refl
         (record {
           class = refl;

@@ -27,7 +27,7 @@ use Rattle.batch_insert.proofs.Labelled.{covered}
 use Rattle.batch_insert.proofs.Naming.{below_with, long_with, same_mask}
 use Rattle.batch_insert.proofs.Staging.{edges, prefix_there, held, names, staged}
 
-module _ (t : Cell ℕ) (a : Arena) (wide : length t ≡ a.width) (c : Case t a) where
+module _ {t : Cell ℕ} {a : Arena} (c : Case t a) where
   -- what the rows before come to, and the row
   pub sum_is : (p : Cell ℕ) (i : ℕ) (amounts : List ℤ) (before : Option Agg) → IsPrefix c p i → c.row.amounts ≡ amounts
       → c.measures ≡ length amounts
@@ -44,13 +44,13 @@ module _ (t : Cell ℕ) (a : Arena) (wide : length t ≡ a.width) (c : Case t a)
       go : (o : Option (Cell ℕ)) → old_closure c p ≡ o
           → sum_with (option_map (λ _. defs.agg (eq_by_cmp nat_cmp) c.measures (c.xs ++ c.ys) p) o) (agg_of_row amounts)
           ≡ defs.agg (eq_by_cmp nat_cmp) c.measures (c.xs ++ c.row ∷ c.ys) p
-      go None e = sym (agg-insert_alone code_equality c.xs c.row c.ys c.measures p (covered t a wide c p i front) e
+      go None e = sym (agg-insert_alone code_equality c.xs c.row c.ys c.measures p (covered c p i front) e
           ∙ one)
       go (Some u) e =
           let old : defs.Agg = defs.agg (eq_by_cmp nat_cmp) c.measures (c.xs ++ c.ys) p in
           some_same (aggs_add.comm (Some old) (Some (agg_of_row amounts)))
           ∙ ap (λ y. combine y old) (sym one)
-          ∙ sym (agg-insert_more code_equality c.xs c.row c.ys c.measures p u (covered t a wide c p i front) e)
+          ∙ sym (agg-insert_more code_equality c.xs c.row c.ys c.measures p u (covered c p i front) e)
 
   module _ (f : ℕ → Option ℕ) (b : Tree ℕ) (stage : IsStage c b f) (x : NodeKind) (is : IsEndFor c x) (k : ℕ)
       (number : f x.mask ≡ Some k) where
@@ -79,10 +79,10 @@ module _ (t : Cell ℕ) (a : Arena) (wide : length t ≡ a.width) (c : Case t a)
     ended_forced d g l v e child value here others =
         let edge : Edge ℕ ℕ = record { dim = g.dim; value = v; target = l } in
         let last = forced_to g e in
-        let n = held t a wide c f b stage is.node g.dim x.mask k last.0 is.dims number in
+        let n = held c f b stage is.node g.dim x.mask k last.0 is.dims number in
         let after : map.get d k ≡ Some (with_forced (Some edge) n.0)
         = here ∙ ap (option_map (with_forced (Some edge))) n.1 in
-        let front = prefix_there t a wide c f b stage is.node g.dim n.0 last.0 n.2 in
+        let front = prefix_there c f b stage is.node g.dim n.0 last.0 n.2 in
         let same = names b d k n.0 (with_forced (Some edge) n.0) n.1 after refl others in
         let entry = (last.2 v value).0 in
         let done : IsEnded c d f x = (
@@ -103,7 +103,7 @@ module _ (t : Cell ℕ) (a : Arena) (wide : length t ≡ a.width) (c : Case t a)
             unmarked n.0 n.2 (stage.sound k n.0 n.1 front) g v last.0 last.1 entry,
           ),
         ) in (
-          staged b d k n.0 (with_forced (Some edge) n.0) n.1 after refl others t a wide c f front (λ i w h. h) stage
+          staged b d k n.0 (with_forced (Some edge) n.0) n.1 after refl others c f front (λ i w h. h) stage
               (λ s. record { parent = s.parent; rises = s.rises; place = s.place; leads = s.leads; class = s.class }),
           edges b d k n.0 (with_forced (Some edge) n.0) n.1 after refl others refl,
           done,
@@ -116,14 +116,14 @@ module _ (t : Cell ℕ) (a : Arena) (wide : length t ≡ a.width) (c : Case t a)
             → cell_at b l ≡ Some (with_value is.node g.dim v)
         named g l v front within value dims child =
             let q = stage.nodes g.child l child in
-            let long : length is.node ≡ length t = prefix_long t a wide c is.node g.dim front in
+            let long : length is.node ≡ length t = prefix_long c is.node g.dim front in
             let low : leq nat_eq is.node t ≡ true = sym (leq_is is.node t)
-            ∙ prefix_leq t a wide c is.node g.dim front in
+            ∙ prefix_leq c is.node g.dim front in
             q.1 ∙ ap (λ p. Some p) (same_mask q.0 (with_value is.node g.dim v) t (sym (leq_is q.0 t)
-            ∙ prefix_leq t a wide c q.0 (depth q.0) q.3)
-            (below_with t is.node g.dim v low (prefix_deep t a wide c is.node g.dim front)
+            ∙ prefix_leq c q.0 (depth q.0) q.3)
+            (below_with t is.node g.dim v low (prefix_deep c is.node g.dim front)
             (omega (arith, within, long)) value)
-            (prefix_long t a wide c q.0 (depth q.0) q.3 ∙ sym (long_with is.node g.dim v ∙ long)) (q.2 ∙ sym dims))
+            (prefix_long c q.0 (depth q.0) q.3 ∙ sym (long_with is.node g.dim v ∙ long)) (q.2 ∙ sym dims))
 
         -- a node with a forced child is no class
         unmarked : (n : Known) → n.cell ≡ is.node → IsSound c (cell_at b) n → (g : ForcedChild) (v : ℕ)
@@ -132,8 +132,8 @@ module _ (t : Cell ℕ) (a : Arena) (wide : length t ≡ a.width) (c : Case t a)
         unmarked n cell sound g v front within entry = elim sound.class [
           | inl h ↦ h
           | inr h ↦ absurd (both (sym
-              (any_after is.node g.dim (prefix_deep t a wide c is.node g.dim front)
-              (omega (arith, within, prefix_long t a wide c is.node g.dim front)))
+              (any_after is.node g.dim (prefix_deep c is.node g.dim front)
+              (omega (arith, within, prefix_long c is.node g.dim front)))
               ∙ ap (λ p. slice_get p g.dim) (sym (ap (new_closure c) (sym cell) ∙ h ∙ cell)) ∙ entry))
         ]
           where
@@ -147,15 +147,15 @@ module _ (t : Cell ℕ) (a : Arena) (wide : length t ≡ a.width) (c : Case t a)
         → IsStage c d f × EdgesStay b d × IsEnded c d f x × ((y : NodeKind) → IsEnded c b f y → IsEnded c d f y)
     ended_class d s none sum here others =
         let whole : IsPrefix c is.node (length t) = (subst (λ o. IsLast c is.node o x.before) none is.last).0 in
-        let n = held t a wide c f b stage is.node (length t) x.mask k whole is.dims number in
+        let n = held c f b stage is.node (length t) x.mask k whole is.dims number in
         let m : Known = with_class (Some s) (with_forced None n.0) in
         let after : map.get d k ≡ Some m
         = here ∙ ap (λ o. option_map (with_class (Some s)) (option_map (with_forced None) o)) n.1 in
-        let front = prefix_there t a wide c f b stage is.node (length t) n.0 whole n.2 in
+        let front = prefix_there c f b stage is.node (length t) n.0 whole n.2 in
         let same = names b d k n.0 m n.1 after refl others in
         let own : new_closure c n.0.cell ≡ n.0.cell
         = subst (λ p. new_closure c p ≡ p) (sym n.2)
-        (prefix_end t a wide c is.node (length t) whole (omega arith)) in
+        (prefix_end c is.node (length t) whole (omega arith)) in
         let done : IsEnded c d f x
         = (
           k,
@@ -169,7 +169,7 @@ module _ (t : Cell ℕ) (a : Arena) (wide : length t ≡ a.width) (c : Case t a)
                 ∙ ap (defs.agg (eq_by_cmp nat_cmp) c.measures (c.xs ++ c.row ∷ c.ys)) (sym n.2)),
           ),
         ) in (
-          staged b d k n.0 m n.1 after refl others t a wide c f front (λ i w h. h) stage
+          staged b d k n.0 m n.1 after refl others c f front (λ i w h. h) stage
               (λ z. record { parent = z.parent; rises = z.rises; place = z.place; leads = z.leads; class = inr own }),
           edges b d k n.0 m n.1 after refl others refl,
           done,

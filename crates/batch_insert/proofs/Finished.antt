@@ -78,7 +78,7 @@ pub all_more : {X : Type 0} (P : X → Type 0) (xs ys : List X) (y : X) → AllB
 all_more P [] ys y h p = (p, h)
 all_more P (x ∷ xs) ys y h p = (h.0, all_more P xs ys y h.1 p)
 
-module _ (t : Cell ℕ) (a : Arena) (wide : length t ≡ a.width) (c : Case t a) (plan : Plan)
+module _ {t : Cell ℕ} {a : Arena} (c : Case t a) (plan : Plan)
     (has : HasAll c plan (replicate (length t) None) 0) (tuple_labels : (x : TupleLabel)
     → Among x plan.tuple_labels.items → IsTupleLabelOf c x)
     (f : ℕ → Option ℕ) (b : Arena) (keeps : KeepsNodes t a b) (stage : IsStage c b.now f) (shut : IsClosed b)
@@ -88,7 +88,7 @@ module _ (t : Cell ℕ) (a : Arena) (wide : length t ≡ a.width) (c : Case t a)
   module _ (k : ℕ) (n : Known) (h : map.get b.now k ≡ Some n) (front : IsPrefix c n.cell (depth n.cell))
       (number : f (mask n.cell) ≡ Some k) where
     node : HasNode c plan n.cell
-    node = has n.cell front (cell_prefix_none n.cell (length t) (prefix_long t a wide c n.cell (depth n.cell) front))
+    node = has n.cell front (cell_prefix_none n.cell (length t) (prefix_long c n.cell (depth n.cell) front))
 
     sound : IsSound c (cell_at b.now) n
     sound = stage.sound k n h front
@@ -103,13 +103,13 @@ module _ (t : Cell ℕ) (a : Arena) (wide : length t ≡ a.width) (c : Case t a)
     own_edge : (i v : ℕ) → i < length t → IsPrefix c n.cell i → slice_index_or t i None ≡ Some v → (l : ℕ)
         × Among (record { dim = i; value = v; target = l }) n.edges × (cell_at b.now l ≡ new_lead c n.cell i v)
     own_edge i v within place value =
-        let y = node.tuple_labels i (prefix_deep t a wide c n.cell i place) within place in
+        let y = node.tuple_labels i (prefix_deep c n.cell i place) within place in
         let s = set y.0 y.1 in
         let is = tuple_labels y.0 y.1 in
         let val : s.2 ≡ v = some_same (sym s.5 ∙ ap (λ j. slice_index_or t j None) y.3 ∙ value) in
         let same : (record_at b.now s.0).edges ≡ n.edges = edges_at s.0 (one_number y.0.mask s.0 y.2 s.3) in
         let node : is.node ≡ n.cell
-        = prefix_told t a wide c is.node n.cell (deep_prefix t a wide c is.node y.0.dim is.front) front (is.dims ∙ y.2) in (
+        = prefix_told c is.node n.cell (deep_prefix c is.node y.0.dim is.front) front (is.dims ∙ y.2) in (
           s.1,
           subst (λ j. Among (record { dim = j; value = v; target = s.1 }) n.edges) y.3
               (subst (λ w. Among (record { dim = y.0.dim; value = w; target = s.1 }) n.edges) val
@@ -131,23 +131,23 @@ module _ (t : Cell ℕ) (a : Arena) (wide : length t ≡ a.width) (c : Case t a)
             (leq_trans code_equality (cell_prefix (suc i) (new_closure c (with_value n.cell i v)))
             (new_closure c (with_value n.cell i v)) t
             (cell_prefix-leq code_equality (suc i) (new_closure c (with_value n.cell i v)))
-            (new_below t a wide c (with_value n.cell i v))) in
+            (new_below c (with_value n.cell i v))) in
             let long : length (target_after_row (eq_by_cmp nat_cmp) (old_lead c n.cell i v) t i) ≡ length t
             = ap length (sym is) ∙ length-cell_prefix (suc i) (new_closure c (with_value n.cell i v))
-            ∙ new_long t a wide c (with_value n.cell i v) in
+            ∙ new_long c (with_value n.cell i v) in
             q.1
             ∙ ap (λ w. Some w) (same_mask q.0 (target_after_row (eq_by_cmp nat_cmp) (old_lead c n.cell i v) t i) t
-            (sym (leq_is q.0 t) ∙ prefix_leq t a wide c q.0 (depth q.0) q.3)
+            (sym (leq_is q.0 t) ∙ prefix_leq c q.0 (depth q.0) q.3)
             (sym (leq_is (target_after_row (eq_by_cmp nat_cmp) (old_lead c n.cell i v) t i) t) ∙ low)
-            (prefix_long t a wide c q.0 (depth q.0) q.3 ∙ sym long) (q.2 ∙ dims))
-            ∙ sym (led_own t a wide c n.cell i v place within value)
+            (prefix_long c q.0 (depth q.0) q.3 ∙ sym long) (q.2 ∙ dims))
+            ∙ sym (led_own c n.cell i v place within value)
 
     -- the labels with other values
     old_edge : (i v : ℕ) (q : Cell ℕ) → i < length t → IsPrefix c n.cell i → old_lead c n.cell i v ≡ Some q
         → HasLabel i v n.edges
     old_edge i v q within place target_of_label =
         let w = led_from code_equality (old_closure c (with_value n.cell i v)) i q target_of_label in
-        let deep = prefix_deep t a wide c n.cell i place in
+        let deep = prefix_deep c n.cell i place in
         let u = closure_some code_equality (c.xs ++ c.ys) n.cell (with_value n.cell i v) w.0
         (leq-with_value code_equality n.cell i v deep) w.1 in
         elim (node.copies i deep within place u.0 u.1) [
@@ -157,7 +157,7 @@ module _ (t : Cell ℕ) (a : Arena) (wide : length t ≡ a.width) (c : Case t a)
               let r = cell_record a.now x.0.from.0 (cell_prefix i u.0) x.3 in
               subst (HasLabel i v) (edges_at done.0 (one_number x.0.mask done.0 x.2 done.1))
               (done.2 i v (subst (λ (y : Known). HasLabel i v y.edges) (sym (record_known a.now x.0.from.0 r.0 r.1))
-              (source_has t a wide c n.cell u.0 i place u.1 x.0.from.0 r.0 r.1 r.2 v q within target_of_label)))
+              (source_has c n.cell u.0 i place u.1 x.0.from.0 r.0 r.1 r.2 v q within target_of_label)))
         ]
       where
         own_label : (u : Cell ℕ) → old_closure c n.cell ≡ Some u → depth n.cell ≤ i → cell_prefix i u ≡ n.cell
@@ -168,18 +168,18 @@ module _ (t : Cell ℕ) (a : Arena) (wide : length t ≡ a.width) (c : Case t a)
             let r = cell_record a.now there.0 (cell_prefix i u) there.1 in
             let o = cell_record b.now there.0 (cell_prefix i u) (stage.cells there.0 (cell_prefix i u) there.1) in
             let told = (stage.below there.0 o.0 o.1 (ap (λ p. leq nat_eq p t) (o.2 ∙ own) ∙ sym (leq_is n.cell t)
-            ∙ prefix_leq t a wide c n.cell i place)).1 in
+            ∙ prefix_leq c n.cell i place)).1 in
             subst (HasLabel i v) (edges_at there.0 (one_number (mask o.0.cell) there.0 (ap mask (o.2 ∙ own)) told))
             (stage.stays there.0 i v
             (subst (λ (y : Known). HasLabel i v y.edges) (sym (record_known a.now there.0 r.0 r.1))
-            (source_has t a wide c n.cell u i place e there.0 r.0 r.1 r.2 v q within target_of_label)))
+            (source_has c n.cell u i place e there.0 r.0 r.1 r.2 v q within target_of_label)))
 
-    edges : HasEdges t a wide c n.cell front (cell_at b.now) n.edges
+    edges : HasEdges c n.cell front (cell_at b.now) n.edges
     edges = record {
       ascends = ascending n.edges sound.rises;
-      place = λ x m. let l = sound.place x m in (prefix_deep t a wide c n.cell x.dim l.1, l.0, l.1);
+      place = λ x m. let l = sound.place x m in (prefix_deep c n.cell x.dim l.1, l.0, l.1);
       leads = λ x m. leads x m (sound.leads x m);
-      all = λ i v q d l e h. elim (led_or_own t a wide c n.cell i v e l) [
+      all = λ i v q d l e h. elim (led_or_own c n.cell i v e l) [
         | inl same ↦ old_edge i v q l e (sym same ∙ h)
         | inr own ↦ let y = own_edge i v l e own in (record { dim = i; value = v; target = y.0 }, y.1, refl, refl)
       ];
@@ -207,7 +207,7 @@ module _ (t : Cell ℕ) (a : Arena) (wide : length t ≡ a.width) (c : Case t a)
 
     pub record_is : Some (renamed (cell_at b.now) n) ≡ option_map (renamed (λ q. Some q))
         (node_of nat_cmp c.measures (c.xs ++ c.row ∷ c.ys) n.cell)
-    record_is = record_right t a wide c n.cell front (cell_at b.now) n refl sound.parent edges end
+    record_is = record_right c n.cell front (cell_at b.now) n refl sound.parent edges end
 
   covers_is : (p : Cell ℕ) → defs.covers (eq_by_cmp nat_cmp) p c.row ≡ true → leq nat_eq p t ≡ true
   covers_is p h = sym (leq_is p t) ∙ ap (leq (eq_by_cmp nat_cmp) p) (sym c.tuple) ∙ h
@@ -225,19 +225,19 @@ module _ (t : Cell ℕ) (a : Arena) (wide : length t ≡ a.width) (c : Case t a)
       (subst (λ s. KeepsNodes s a b) (sym c.tuple) keeps)
   right = record {
     each = λ k n h e. let l = stage.below k n h (covers_is n.cell e) in
-        (node_of_prefix t a wide c n.cell l.0, record_is k n h l.0 l.1);
+        (node_of_prefix c n.cell l.0, record_is k n h l.0 l.1);
     once = once;
     all = λ p h node.
-        let front = prefix_of_node t a wide c p (covers_is p h) node in
+        let front = prefix_of_node c p (covers_is p h) node in
         let k = some_there (f (mask p)) (stage.all p front) in
         let q = stage.nodes (mask p) k.0 k.1 in
-        (k.0, q.1 ∙ ap (λ r. Some r) (prefix_told t a wide c q.0 p q.3 front q.2));
+        (k.0, q.1 ∙ ap (λ r. Some r) (prefix_told c q.0 p q.3 front q.2));
   }
 
   pub finished : IsTreeOf a.width b.now (record { measures = c.measures; rows = c.xs ++ c.row ∷ c.ys })
   finished = record {
     wide = all_more (λ row. length row.tuple ≡ a.width) c.xs c.ys c.row c.from.wide (sym (length-cell_of c.row.tuple)
-        ∙ ap length c.tuple ∙ wide);
+        ∙ ap length c.tuple ∙ c.wide);
     canonical = assembled c.measures c.xs c.row c.ys a b c.from.canonical
         (subst (λ s. KeepsNodes s a b) (sym c.tuple) keeps) right;
   }

@@ -66,9 +66,9 @@ rises_named name (x ∷ xs) (y ∷ ys) e h =
     and_from (list_all (label_lt x) xs) (rises xs)
     (all_before name x y xs ys (ap (λ u. u.dim) s) (ap (λ u. u.value) s) (cc) h.0) (rises_named name xs ys (cc) h.1)
 
-module _ (t : Cell ℕ) (a : Arena) (wide : length t ≡ a.width) (c : Case t a) where
+module _ {t : Cell ℕ} {a : Arena} (c : Case t a) where
   pub covered : (p : Cell ℕ) (i : ℕ) → IsPrefix c p i → defs.covers (eq_by_cmp nat_cmp) p c.row ≡ true
-  covered p i f = ap (leq (eq_by_cmp nat_cmp) p) c.tuple ∙ prefix_leq t a wide c p i f
+  covered p i f = ap (leq (eq_by_cmp nat_cmp) p) c.tuple ∙ prefix_leq c p i f
 
   -- a label leads where it led, or has t's value and leads to what the old target and t share
   led : (p : Cell ℕ) (i v : ℕ) → IsPrefix c p i → i < length t
@@ -80,8 +80,8 @@ module _ (t : Cell ℕ) (a : Arena) (wide : length t ≡ a.width) (c : Case t a)
     where
       whole : new_lead c p i v ≡ cond (leq (eq_by_cmp nat_cmp) (one_value i v) (cell_of c.row.tuple))
           (Some (target_after_row (eq_by_cmp nat_cmp) (old_lead c p i v) (cell_of c.row.tuple) i)) (old_lead c p i v)
-      whole = lead-insert code_equality c.xs c.row c.ys p i v (covered p i f) (prefix_deep t a wide c p i f)
-          (omega (arith, l, prefix_long t a wide c p i f))
+      whole = lead-insert code_equality c.xs c.row c.ys p i v (covered p i f) (prefix_deep c p i f)
+          (omega (arith, l, prefix_long c p i f))
 
       go : (b : Bool) → leq (eq_by_cmp nat_cmp) (one_value i v) (cell_of c.row.tuple) ≡ b
           → ((leq (eq_by_cmp nat_cmp) (one_value i v) (cell_of c.row.tuple) ≡ false)
@@ -117,10 +117,10 @@ module _ (t : Cell ℕ) (a : Arena) (wide : length t ≡ a.width) (c : Case t a)
   module _ (p u : Cell ℕ) (i : ℕ) (front : IsPrefix c p i) (e : old_closure c p ≡ Some u) where
     is : defs.closure (eq_by_cmp nat_cmp) (c.xs ++ c.ys) (cell_prefix i u) ≡ Some u
     is = (chain_node nat_cmp_total finmap.nat_cmp-IsAntisymmetric c.measures (c.xs ++ c.ys) p u i e
-        (prefix_deep t a wide c p i front)).0
+        (prefix_deep c p i front)).0
 
     long : length (cell_prefix i u) ≡ length t
-    long = length-cell_prefix i u ∙ old_long t a wide c p u e
+    long = length-cell_prefix i u ∙ old_long c p u e
 
     pub cut : (j : ℕ) → cell_prefix j (new_closure c p) ≡ meet (eq_by_cmp nat_cmp) (cell_prefix j u) t
     cut j = ap (λ o. cell_prefix j (defs.meet_after (eq_by_cmp nat_cmp) t o)) e
@@ -141,9 +141,9 @@ module _ (t : Cell ℕ) (a : Arena) (wide : length t ≡ a.width) (c : Case t a)
         ∙ cell_prefix-depth_cell_prefix i u in
         let f = source_place j d l in
         ap (λ q. target_of_label (eq_by_cmp nat_cmp) (c.xs ++ c.ys) q j v) (sym same)
-        ∙ sym (lead_chain code_equality (c.xs ++ c.ys) p u j v e (prefix_deep t a wide c p j f)
-        (omega (arith, w, prefix_long t a wide c p j f))
-        (omega (arith, w, length-cell_prefix j u, old_long t a wide c p u e)))
+        ∙ sym (lead_chain code_equality (c.xs ++ c.ys) p u j v e (prefix_deep c p j f)
+        (omega (arith, w, prefix_long c p j f))
+        (omega (arith, w, length-cell_prefix j u, old_long c p u e)))
 
     module _ (k : ℕ) (n : Known) (g : finmap.get a.now k ≡ Some n) (cell : n.cell ≡ cell_prefix i u) where
       pub read : renamed (cell_at a.now) n ≡ renamed (λ x. Some x)
@@ -191,7 +191,7 @@ module _ (t : Cell ℕ) (a : Arena) (wide : length t ≡ a.width) (c : Case t a)
       pub source_has : (v : ℕ) (q : Cell ℕ) → i < length t → old_lead c p i v ≡ Some q → HasLabel i v n.edges
       source_has v q l h =
           let d = depth-cell_prefix-le i u in
-          let b = next-chain nat_cmp i u (omega (arith, l, old_long t a wide c p u e)) in
+          let b = next-chain nat_cmp i u (omega (arith, l, old_long c p u e)) in
           let m = record_of nat_cmp c.measures (c.xs ++ c.ys) (cell_prefix i u) u in
           let there : Among (record { dim = i; value = v; target = q }) m.edges =
           (edges-are nat_cmp_total finmap.nat_cmp-IsAntisymmetric c.measures (c.xs ++ c.ys) (cell_prefix i u) u is

@@ -29,9 +29,9 @@ get_meet (x ∷ p) (y ∷ q) (suc i) e f h k = get_meet p q i e f h k
 pub past : (u : Cell ℕ) (i : ℕ) → i < length u → slice_get u i ≡ None → ⊥
 past u i l e = none_some (sym e ∙ (item_at u i l).1)
 
-module _ (t : Cell ℕ) (a : Arena) (wide : length t ≡ a.width) (c : Case t a) where
+module _ {t : Cell ℕ} {a : Arena} (c : Case t a) where
   pub old_long : (p u : Cell ℕ) → old_closure c p ≡ Some u → length u ≡ length t
-  old_long p u e = closure_length (eq_by_cmp nat_cmp) a.width p u (c.xs ++ c.ys) c.from.wide e ∙ sym wide
+  old_long p u e = closure_length (eq_by_cmp nat_cmp) a.width p u (c.xs ++ c.ys) c.from.wide e ∙ sym c.wide
 
   met_long : (o : Option (Cell ℕ)) → ((u : Cell ℕ) → o ≡ Some u → length u ≡ length t)
       → length (meet_after (eq_by_cmp nat_cmp) t o) ≡ length t

@@ -75,7 +75,7 @@ module _ (b d : Tree ℕ) (k : ℕ) (n m : Known) (before : map.get b k ≡ Some
     | inr s ↦ ap (λ o. (record_or o).edges) (others q s.1)
   ]
 
-  module _ (t : Cell ℕ) (a : Arena) (wide : length t ≡ a.width) (c : Case t a) (f : ℕ
+  module _ {t : Cell ℕ} {a : Arena} (c : Case t a) (f : ℕ
       → Option ℕ) (front : IsPrefix c n.cell (depth n.cell)) (more : (i v : ℕ) → HasLabel i v n.edges
       → HasLabel i v m.edges) where
     pub staged : IsStage c b f → (IsSound c (cell_at b) n → IsSound c (cell_at b) m) → IsStage c d f
@@ -101,7 +101,7 @@ module _ (b d : Tree ℕ) (k : ℕ) (n m : Known) (before : map.get b k ≡ Some
           | inl s ↦ absurd (true≢false
               (sym (ap (λ p. leq nat_eq p t)
               (ap (λ (x : Known). x.cell) (some_same (sym (stage.apart l r g e) ∙ ap (map.get b) s.1 ∙ before)))
-              ∙ sym (leq_is n.cell t) ∙ prefix_leq t a wide c n.cell (depth n.cell) front) ∙ e))
+              ∙ sym (leq_is n.cell t) ∙ prefix_leq c n.cell (depth n.cell) front) ∙ e))
           | inr s ↦ others l s.1 ∙ stage.apart l r g e
         ]
 
@@ -112,7 +112,7 @@ module _ (b d : Tree ℕ) (k : ℕ) (n m : Known) (before : map.get b k ≡ Some
             (keeps (stage.sound k n before front))
         sound l r h e (inr s) = stage.sound l r (sym (others l s.1) ∙ h) e
 
-module _ (t : Cell ℕ) (a : Arena) (wide : length t ≡ a.width) (c : Case t a) where
+module _ {t : Cell ℕ} {a : Arena} (c : Case t a) where
   -- an edge that the record of p may have
   abbrev Fits : (ℕ → Option (Cell ℕ)) → Cell ℕ → Edge ℕ ℕ → Type 0
   Fits name p e = (e.dim < length t) × IsPrefix c p e.dim
@@ -152,15 +152,15 @@ module _ (t : Cell ℕ) (a : Arena) (wide : length t ≡ a.width) (c : Case t a)
         let n = cell_record b k q.0 q.1 in (
           n.0,
           n.1,
-          n.2 ∙ prefix_told t a wide c q.0 p q.3
-              (prefix_before t a wide c p (depth p) i (prefix_deep t a wide c p i front) (omega arith) front)
+          n.2 ∙ prefix_told c q.0 p q.3
+              (prefix_before c p (depth p) i (prefix_deep c p i front) (omega arith) front)
               (q.2 ∙ sym dims),
         )
 
     pub prefix_there : (p : Cell ℕ) (i : ℕ) (n : Known) → IsPrefix c p i → n.cell ≡ p → IsPrefix c n.cell (depth n.cell)
     prefix_there p i n front e
         = subst (λ q. IsPrefix c q (depth q)) (sym e)
-        (prefix_before t a wide c p (depth p) i (prefix_deep t a wide c p i front) (omega arith) front)
+        (prefix_before c p (depth p) i (prefix_deep c p i front) (omega arith) front)
 
     -- the labels of another node
     module _ (x : LabelCopy) (is : IsCopyOf c x) (k : ℕ) (number : f x.mask ≡ Some k) where
@@ -185,7 +185,7 @@ module _ (t : Cell ℕ) (a : Arena) (wide : length t ≡ a.width) (c : Case t a)
               let below : leq (eq_by_cmp nat_cmp) (cell_prefix is.dim is.upper) t ≡ true
               = leq_is (cell_prefix is.dim is.upper) t ∙ l in
               let met : meet (eq_by_cmp nat_cmp) (cell_prefix is.dim is.upper) t ≡ is.node
-              = sym (cut t a wide c is.node is.upper is.dim is.front is.closure is.dim) ∙ is.front in
+              = sym (cut c is.node is.upper is.dim is.front is.closure is.dim) ∙ is.front in
               let same : cell_prefix is.dim is.upper ≡ is.node
               = sym (meet_of_leq code_equality (cell_prefix is.dim is.upper) t below) ∙ met in
               let at = stage.cells x.from.0 (cell_prefix is.dim is.upper) is.from in
@@ -212,7 +212,7 @@ module _ (t : Cell ℕ) (a : Arena) (wide : length t ≡ a.width) (c : Case t a)
           (fit r.0 r.1 r.2 e (subst (λ ys. Among e ys) same m)) in
           let old : (record_at a.now x.from.0).edges ≡ es
           = ap (λ (y : Known). y.edges) (record_known a.now x.from.0 r.0 r.1) ∙ sym same in (
-            staged b d k n.0 (with_edges es n.0) n.1 after refl others t a wide c f
+            staged b d k n.0 (with_edges es n.0) n.1 after refl others c f
                 (prefix_there is.node is.dim n.0 is.front n.2) (λ i v. labels_put es n.0.edges i v) stage
                 (puts_sound (cell_at b) es n.0 fits),
             labels b d k n.0 (with_edges es n.0) n.1 after refl others (λ i v. labels_put es n.0.edges i v),
@@ -228,10 +228,10 @@ module _ (t : Cell ℕ) (a : Arena) (wide : length t ≡ a.width) (c : Case t a)
           fit : (r : Known) → map.get a.now x.from.0 ≡ Some r → r.cell ≡ cell_prefix is.dim is.upper → (e : Edge ℕ ℕ)
               → Among e r.edges → Fits (cell_at b) is.node e
           fit r g cell e m =
-              let l = source_label t a wide c is.node is.upper is.dim is.front is.closure x.from.0 r g cell e m in (
+              let l = source_label c is.node is.upper is.dim is.front is.closure x.from.0 r g cell e m in (
                 l.0,
                 l.1,
-                elim (led_or_own t a wide c is.node e.dim e.value l.1 l.0) [
+                elim (led_or_own c is.node e.dim e.value l.1 l.0) [
                   | inl h
                       ↦ inl (h ∙ l.4 ∙ sym (stage.cells e.target l.2 l.3))
                   | inr h ↦ inr h

@@ -28,7 +28,7 @@ use Rattle.batch_insert.proofs.Sources.{closed}
 pub record_known : (b : Tree ℕ) (k : ℕ) (n : Known) → map.get b k ≡ Some n → record_at b k ≡ n
 record_known b k n h = ap record_or h
 
-module _ (t : Cell ℕ) (a : Arena) (wide : length t ≡ a.width) (c : Case t a) where
+module _ {t : Cell ℕ} {a : Arena} (c : Case t a) where
   pub new_closed : (p : Cell ℕ) → leq nat_eq p t ≡ true
       → defs.closure (eq_by_cmp nat_cmp) (c.xs ++ c.row ∷ c.ys) p ≡ Some (new_closure c p)
   new_closed p h =
@@ -48,7 +48,7 @@ module _ (t : Cell ℕ) (a : Arena) (wide : length t ≡ a.width) (c : Case t a)
   node_of_prefix p f =
       (is_node-is code_equality (c.xs ++ c.row ∷ c.ys) p).1
       (ap (option_map (cell_prefix (depth p)))
-      (new_closed p (sym (leq_is p t) ∙ prefix_leq t a wide c p (depth p) f)) ∙ ap (λ x. Some x) f)
+      (new_closed p (sym (leq_is p t) ∙ prefix_leq c p (depth p) f)) ∙ ap (λ x. Some x) f)
 
   -- the records of the nodes that there were
   module _ (name : ℕ → Option (Cell ℕ)) (more : (l : ℕ) (q : Cell ℕ) → cell_at a.now l ≡ Some q → name l ≡ Some q)
@@ -58,7 +58,7 @@ module _ (t : Cell ℕ) (a : Arena) (wide : length t ≡ a.width) (c : Case t a)
 
     class : (n.class ≡ None) ⊎ (new_closure c n.cell ≡ n.cell)
     class = go (cell_eq (eq_by_cmp nat_cmp) shut.0 (cell_prefix (depth n.cell) shut.0)) refl
-        (ap (λ m. m.class) (read t a wide c n.cell shut.0 (depth n.cell) front shut.1 k n g (sym shut.2)))
+        (ap (λ m. m.class) (read c n.cell shut.0 (depth n.cell) front shut.1 k n g (sym shut.2)))
       where
         go : (b : Bool) → cell_eq (eq_by_cmp nat_cmp) shut.0 (cell_prefix (depth n.cell) shut.0) ≡ b
             → n.class ≡ cond b (Some
@@ -70,14 +70,14 @@ module _ (t : Cell ℕ) (a : Arena) (wide : length t ≡ a.width) (c : Case t a)
             inr (leq_antisymm code_equality (new_closure c n.cell) n.cell
             (subst (λ x. leq (eq_by_cmp nat_cmp) (new_closure c n.cell) x ≡ true) same
             (meet_after_rest code_equality t (old_closure c n.cell) shut.0 shut.1))
-            (above_self t a wide c n.cell (prefix_leq t a wide c n.cell (depth n.cell) front)))
+            (above_self c n.cell (prefix_leq c n.cell (depth n.cell) front)))
 
     pub old_sound : IsSound c name n
     old_sound = record {
       parent = parent_more (cell_at a.now) name more n.parent (parent_cell_of nat_cmp n.cell)
-          (source_parent t a wide c n.cell shut.0 (depth n.cell) front shut.1 k n g (sym shut.2)
+          (source_parent c n.cell shut.0 (depth n.cell) front shut.1 k n g (sym shut.2)
           ∙ ap (λ q. option_map (λ x. Some x) (parent_cell_of nat_cmp q)) shut.2);
-      rises = source_rises t a wide c n.cell shut.0 (depth n.cell) front shut.1 k n g (sym shut.2);
+      rises = source_rises c n.cell shut.0 (depth n.cell) front shut.1 k n g (sym shut.2);
       place = λ x m. let l = label x m in (l.0, l.1);
       leads = λ x m. leads x m;
       class = class;
@@ -85,13 +85,13 @@ module _ (t : Cell ℕ) (a : Arena) (wide : length t ≡ a.width) (c : Case t a)
       where
         label : (x : Edge ℕ ℕ) → Among x n.edges → (x.dim < length t) × IsPrefix c n.cell x.dim × (q : Cell ℕ)
             × (cell_at a.now x.target ≡ Some q) × (old_lead c n.cell x.dim x.value ≡ Some q)
-        label x m = source_label t a wide c n.cell shut.0 (depth n.cell) front shut.1 k n g (sym shut.2) x m
+        label x m = source_label c n.cell shut.0 (depth n.cell) front shut.1 k n g (sym shut.2) x m
 
         leads : (x : Edge ℕ ℕ) → Among x n.edges → (new_lead c n.cell x.dim x.value ≡ name x.target)
             ⊎ (slice_index_or t x.dim None ≡ Some x.value)
         leads x m =
             let l = label x m in
-            elim (led_or_own t a wide c n.cell x.dim x.value l.1 l.0) [
+            elim (led_or_own c n.cell x.dim x.value l.1 l.0) [
               | inl h ↦ inl (h ∙ l.4 ∙ sym (more x.target l.2 l.3))
               | inr h ↦ inr h
             ]
@@ -138,7 +138,7 @@ module _ (t : Cell ℕ) (a : Arena) (wide : length t ≡ a.width) (c : Case t a)
             let number = some_there (f (mask n.cell)) (all n.cell front) in (
               front,
               number.1 ∙ ap (λ j. Some j)
-                  (sym (begun_told t a wide c b f k (mask n.cell) number.0 n begun h front refl number.1)),
+                  (sym (begun_told c b f k (mask n.cell) number.0 n begun h front refl number.1)),
             )
         | inr numbered ↦
             let p = begun.nodes (mask n.cell) k numbered in

@@ -37,14 +37,14 @@ set_stays t b d f x same h
           (sym (same h.0)) h.6,
     )
 
-module _ (t : Cell ℕ) (a : Arena) (wide : length t ≡ a.width) (c : Case t a) where
+module _ {t : Cell ℕ} {a : Arena} (c : Case t a) where
   -- two of one node and one dimension have one target
   same_target : (x y : TupleLabel) (v : ℕ) → IsTupleLabelOf c x → IsTupleLabelOf c y → x.mask ≡ y.mask → x.dim ≡ y.dim
       → slice_index_or t x.dim None ≡ Some v → x.target ≡ y.target
   same_target x y v is also dims dim value =
       let node : is.node ≡ also.node
-      = prefix_told t a wide c is.node also.node (deep_prefix t a wide c is.node x.dim is.front)
-      (deep_prefix t a wide c also.node y.dim also.front) (is.dims ∙ dims ∙ sym also.dims) in
+      = prefix_told c is.node also.node (deep_prefix c is.node x.dim is.front)
+      (deep_prefix c also.node y.dim also.front) (is.dims ∙ dims ∙ sym also.dims) in
       sym (is.target v value)
       ∙ ap (λ p. mask (target_after_row (eq_by_cmp nat_cmp) (old_lead c p x.dim v) t x.dim)) node
       ∙ ap (λ i. mask (target_after_row (eq_by_cmp nat_cmp) (old_lead c also.node i v) t i)) dim
@@ -62,7 +62,7 @@ module _ (t : Cell ℕ) (a : Arena) (wide : length t ≡ a.width) (c : Case t a)
     other y l v = record { dim = y.dim; value = v; target = l }
 
     n : (n : Known) × (map.get b k ≡ Some n) × (n.cell ≡ is.node)
-    n = held t a wide c f b stage is.node x.dim x.mask k is.front is.dims number
+    n = held c f b stage is.node x.dim x.mask k is.front is.dims number
 
     after : map.get d k ≡ Some (with_edge edge n.0)
     after = here ∙ ap (option_map (with_edge edge)) n.1
@@ -104,9 +104,9 @@ module _ (t : Cell ℕ) (a : Arena) (wide : length t ≡ a.width) (c : Case t a)
     pub owned : IsStage c d f × LabelsStay b d × IsSet t d f x
         × ((y : TupleLabel) → IsTupleLabelOf c y → IsSet t b f y → IsSet t d f y)
     owned = (
-      staged b d k n.0 (with_edge edge n.0) n.1 after refl others t a wide c f
-          (prefix_there t a wide c f b stage is.node x.dim n.0 is.front n.2) more stage
-          (put_sound t a wide c (cell_at b) edge n.0 (
+      staged b d k n.0 (with_edge edge n.0) n.1 after refl others c f
+          (prefix_there c f b stage is.node x.dim n.0 is.front n.2) more stage
+          (put_sound c (cell_at b) edge n.0 (
             is.within,
             subst (λ p. IsPrefix c p x.dim) (sym n.2) is.front,
             inr value,

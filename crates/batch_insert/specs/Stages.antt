@@ -83,18 +83,18 @@ IsSet t b numbers x = (k : ℕ) × (l : ℕ) × (v : ℕ) × (numbers x.mask ≡
 
 -- what parts of a plan have done from the map b to the map d, whatever rows and row there are
 abbrev pub HaveCopied : Cell ℕ → (ℕ → Option ℕ) → List LabelCopy → Tree ℕ → Tree ℕ → Type 0
-HaveCopied t numbers xs b d = (a : Arena) (c : Case t a) → length t ≡ a.width → IsStage c b numbers
+HaveCopied t numbers xs b d = (a : Arena) (c : Case t a) → IsStage c b numbers
     → ((x : LabelCopy) → Among x xs → IsCopyOf c x)
     → IsStage c d numbers × LabelsStay b d × ((x : LabelCopy) → Among x xs → IsCopied c d numbers x)
 
 abbrev pub HaveSet : Cell ℕ → (ℕ → Option ℕ) → List TupleLabel → Tree ℕ → Tree ℕ → Type 0
-HaveSet t numbers xs b d = (a : Arena) (c : Case t a) → length t ≡ a.width → IsStage c b numbers
+HaveSet t numbers xs b d = (a : Arena) (c : Case t a) → IsStage c b numbers
     → ((x : TupleLabel) → Among x xs → IsTupleLabelOf c x)
     → IsStage c d numbers × LabelsStay b d × ((x : TupleLabel) → Among x xs → IsSet t d numbers x)
     × ((y : TupleLabel) → IsTupleLabelOf c y → IsSet t b numbers y → IsSet t d numbers y)
 
 abbrev pub HaveEnded : Cell ℕ → List ℤ → (ℕ → Option ℕ) → List NodeKind → Tree ℕ → Tree ℕ → Type 0
-HaveEnded t amounts numbers xs b d = (a : Arena) (c : Case t a) → length t ≡ a.width → c.row.amounts ≡ amounts
+HaveEnded t amounts numbers xs b d = (a : Arena) (c : Case t a) → c.row.amounts ≡ amounts
     → c.measures ≡ length amounts → IsStage c b numbers → ((x : NodeKind) → Among x xs → IsEndFor c x)
     → IsStage c d numbers × EdgesStay b d × ((x : NodeKind) → Among x xs → IsEnded c d numbers x)
     × ((y : NodeKind) → IsEnded c b numbers y → IsEnded c d numbers y)

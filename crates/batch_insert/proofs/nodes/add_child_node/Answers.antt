@@ -18,8 +18,8 @@ returns-in-Ok-noted-clause-repair g c =
     c.in-Ok-noted.ensures.noted
 
 pub returns-in-Ok-noted-clause-begun : goal.returns-in-Ok-noted-clause-begun
-returns-in-Ok-noted-clause-begun g c = λ a k w begun none is old.
-    begun_spot_new c.args.tuple.now a w k c.args.arena.now.now (numbered c.args.numbers.now)
+returns-in-Ok-noted-clause-begun g c = λ a k begun none is old.
+    begun_spot_new k c.args.arena.now.now (numbered c.args.numbers.now)
     (numbered c.noted.new.numbers) c.args.spot c.in-Ok.node.0 c.number_of-parent.result.0 c.tuple_code-code.result
     c.add_new.new.arena.now begun none c.in-Ok-noted.ensures.noted is old
     c.number_of-parent.ensures c.tuple_code-code.ensures.value c.in-Ok.ensures.free c.in-Ok.ensures.here
@@ -29,8 +29,8 @@ pub returns-in-Ok-noted-clause-noted : goal.returns-in-Ok-noted-clause-noted
 returns-in-Ok-noted-clause-noted g c = (c.in-Ok.node.0, c.in-Ok-noted.ensures.noted)
 
 pub returns-in-Err-clause-full : goal.returns-in-Err-clause-full
-returns-in-Err-clause-full g c = λ h a k w begun none is old.
-    spot_more c.args.tuple.now a w k c.args.arena.now.now (numbered c.args.numbers.now) c.args.spot c.args.arena.now.max
+returns-in-Err-clause-full g c = λ h a k begun none is old.
+    spot_more k c.args.arena.now.now (numbered c.args.numbers.now) c.args.spot c.args.arena.now.max
     begun none is old (c.add_new.ensures.full.0 (same_error c.add_new.result _ _ _ c.in-Err.is refl h))
 
 pub tuple_code-code-requires : goal.tuple_code-code-requires

@@ -9,20 +9,20 @@ use Rattle.qc_arena.proofs.CallerLemmas.{none_found}
 pub returns-in-Some-clause-begun : goal.returns-in-Some-clause-begun
 returns-in-Some-clause-begun g c
     = ok_then c.add_old.result
-    (λ h a k w b is. h a k w b (none_found _ (sym c.has.ensures ∙ c.if-has.false)) is c.in-Some.is)
+    (λ h a k b is. h a k b (none_found _ (sym c.has.ensures ∙ c.if-has.false)) is c.in-Some.is)
     c.add_old.ensures.begun
 
 pub returns-in-None-clause-begun : goal.returns-in-None-clause-begun
 returns-in-None-clause-begun g c
     = ok_then c.add_child_node.result
-    (λ h a k w b is. h a k w b (none_found _ (sym c.has.ensures ∙ c.if-has.false)) is c.in-None.is)
+    (λ h a k b is. h a k b (none_found _ (sym c.has.ensures ∙ c.if-has.false)) is c.in-None.is)
     c.add_child_node.ensures.begun
 
 pub returns-then-has-clause-keeps : goal.returns-then-has-clause-keeps
 returns-then-has-clause-keeps g c = keeps_same c.args.tuple.now c.args.arena.now c.requires.repair.opened
 
 pub returns-then-has-clause-begun : goal.returns-then-has-clause-begun
-returns-then-has-clause-begun g c = λ a k w b is. b
+returns-then-has-clause-begun g c = λ a k b is. b
 
 pub returns-in-Some-clause-known : goal.returns-in-Some-clause-known
 returns-in-Some-clause-known g c
@@ -77,7 +77,7 @@ returns-in-Some-clause-full g c = λ h. absurd (c.add_old.ensures.fails h)
 
 pub returns-in-None-clause-full : goal.returns-in-None-clause-full
 returns-in-None-clause-full g c
-    = λ h a k w b is. c.add_child_node.ensures.full h a k w b (none_found _ (sym c.has.ensures ∙ c.if-has.false))
+    = λ h a k b is. c.add_child_node.ensures.full h a k b (none_found _ (sym c.has.ensures ∙ c.if-has.false))
     is c.in-None.is
 
 pub add_child_node-requires : goal.add_child_node-requires

@@ -14,10 +14,10 @@ returns-in-Some-clause-class g c
 
 pub returns-in-Some-clause-sum : goal.returns-in-Some-clause-sum
 returns-in-Some-clause-sum g c
-    = λ t k p w f h. class_some t c.args.arena.now w k p c.in-Some.at _ f
+    = λ t k p f h. class_some k p c.in-Some.at _ f
     (subst (λ o. IsChain k p (length t) o) c.in-Some.is h) c.class.ensures.value
 
 pub returns-in-None-clause-sum : goal.returns-in-None-clause-sum
 returns-in-None-clause-sum g c
-    = λ t k p w f h. class_none t c.args.arena.now w k p (length t)
+    = λ t k p f h. class_none k p (length t)
     (subst (λ o. IsChain k p (length t) o) c.in-None.is h)
