@@ -50,11 +50,9 @@ pub copying_within : {t : Cell ℕ} {a : Arena} (c : Case t a) (x : LabelCopy) �
     → (p : Cell ℕ) (i : ℕ) → IsPrefix c p i → x.mask ≡ mask p → copy_cost a.now x ≤ 1 + 2 * edges_at c p
 copying_within {a = a} c x is p i front dims =
     subst (λ q. copy_cost a.now x ≤ 1 + 2 * edges_at c q)
-    (prefix_told c is.node p
-    (prefix_before c is.node (depth is.node) is.dim (prefix_deep c is.node is.dim is.front)
+    (prefix_told c is.node p (prefix_before c is.node (depth is.node) is.dim (prefix_deep c is.node is.dim is.front)
     (omega arith) is.front)
-    (prefix_before c p (depth p) i (prefix_deep c p i front) (omega arith) front) (is.dims ∙ dims))
-    (copy_within c x is)
+    (prefix_before c p (depth p) i (prefix_deep c p i front) (omega arith) front) (is.dims ∙ dims)) (copy_within c x is)
 
 -- sums over the first parts
 pub taken_length : {X : Type 0} (xs : List X) (k : ℕ) (d : X) → k < length xs

@@ -69,8 +69,7 @@ module _ {t : Cell ℕ} {a : Arena} (c : Case t a) where
     each k n h = elim (begun.left k n h) [
       | inl old ↦ node-insert code_equality c.xs c.row c.ys n.cell (c.from.canonical.each k n old).0
       | inr numbered ↦ let q = begun.nodes (mask n.cell) k numbered in
-          node_of_prefix c n.cell
-          (subst (λ x. IsPrefix c x (depth x)) (some_same (sym q.1 ∙ cell_known b k n h)) q.3)
+          node_of_prefix c n.cell (subst (λ x. IsPrefix c x (depth x)) (some_same (sym q.1 ∙ cell_known b k n h)) q.3)
     ]
 
     numbered_prefix : (k : ℕ) (n : Known) → numbers.get b k ≡ Some n → f (mask n.cell) ≡ Some k

@@ -71,8 +71,7 @@ module _ (t : Cell ℕ) (f : ℕ → Option ℕ) (b : Tree ℕ) where
         → map.get d k ≡ option_map (with_forced (Some (record { dim = g.dim; value = v; target = l }))) (map.get b k)
         → ((q : ℕ) → q ≢ k → map.get d q ≡ map.get b q) → HaveEnded t amounts f (x ∷ []) b d
     one_forced amounts x g k l v forced number child value here others a c same many stage are =
-        let r = ended_forced c f b stage x (are x (inl refl)) k number d g l v forced child value
-        here others in
+        let r = ended_forced c f b stage x (are x (inl refl)) k number d g l v forced child value here others in
         (r.0, r.1, one_among (IsEnded c d f) x r.2, r.3)
 
     pub one_class : (amounts : List ℤ) (x : NodeKind) (k : ℕ) (s : defs.Agg) → x.forced ≡ None → f x.mask ≡ Some k

@@ -120,8 +120,7 @@ module _ {t : Cell ℕ} {a : Arena} (c : Case t a) where
             let low : leq nat_eq is.node t ≡ true = sym (leq_is is.node t)
             ∙ prefix_leq c is.node g.dim front in
             q.1 ∙ ap (λ p. Some p) (same_mask q.0 (with_value is.node g.dim v) t (sym (leq_is q.0 t)
-            ∙ prefix_leq c q.0 (depth q.0) q.3)
-            (below_with t is.node g.dim v low (prefix_deep c is.node g.dim front)
+            ∙ prefix_leq c q.0 (depth q.0) q.3) (below_with t is.node g.dim v low (prefix_deep c is.node g.dim front)
             (omega (arith, within, long)) value)
             (prefix_long c q.0 (depth q.0) q.3 ∙ sym (long_with is.node g.dim v ∙ long)) (q.2 ∙ sym dims))
 

@@ -142,8 +142,7 @@ module _ {t : Cell ℕ} {a : Arena} (c : Case t a) where
         let f = source_place j d l in
         ap (λ q. target_of_label (eq_by_cmp nat_cmp) (c.xs ++ c.ys) q j v) (sym same)
         ∙ sym (lead_chain code_equality (c.xs ++ c.ys) p u j v e (prefix_deep c p j f)
-        (omega (arith, w, prefix_long c p j f))
-        (omega (arith, w, length-cell_prefix j u, old_long c p u e)))
+        (omega (arith, w, prefix_long c p j f)) (omega (arith, w, length-cell_prefix j u, old_long c p u e)))
 
     module _ (k : ℕ) (n : Known) (g : finmap.get a.now k ≡ Some n) (cell : n.cell ≡ cell_prefix i u) where
       pub read : renamed (cell_at a.now) n ≡ renamed (λ x. Some x)

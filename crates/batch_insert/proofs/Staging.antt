@@ -152,8 +152,7 @@ module _ {t : Cell ℕ} {a : Arena} (c : Case t a) where
         let n = cell_record b k q.0 q.1 in (
           n.0,
           n.1,
-          n.2 ∙ prefix_told c q.0 p q.3
-              (prefix_before c p (depth p) i (prefix_deep c p i front) (omega arith) front)
+          n.2 ∙ prefix_told c q.0 p q.3 (prefix_before c p (depth p) i (prefix_deep c p i front) (omega arith) front)
               (q.2 ∙ sym dims),
         )
 

@@ -9,8 +9,7 @@ use Rattle.qc_arena.proofs.CallerLemmas.{none_found}
 pub returns-in-Some-clause-begun : goal.returns-in-Some-clause-begun
 returns-in-Some-clause-begun g c
     = ok_then c.add_old.result
-    (λ h a k b is. h a k b (none_found _ (sym c.has.ensures ∙ c.if-has.false)) is c.in-Some.is)
-    c.add_old.ensures.begun
+    (λ h a k b is. h a k b (none_found _ (sym c.has.ensures ∙ c.if-has.false)) is c.in-Some.is) c.add_old.ensures.begun
 
 pub returns-in-None-clause-begun : goal.returns-in-None-clause-begun
 returns-in-None-clause-begun g c

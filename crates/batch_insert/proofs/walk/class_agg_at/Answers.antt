@@ -19,5 +19,4 @@ returns-in-Some-clause-sum g c
 
 pub returns-in-None-clause-sum : goal.returns-in-None-clause-sum
 returns-in-None-clause-sum g c
-    = λ t k p f h. class_none k p (length t)
-    (subst (λ o. IsChain k p (length t) o) c.in-None.is h)
+    = λ t k p f h. class_none k p (length t) (subst (λ o. IsChain k p (length t) o) c.in-None.is h)
