@@ -99,8 +99,8 @@ fn split_piece(text: &str) -> (&str, &str, bool)
     }
 }
 
-// Puts the codes of the pieces between commas into a cell, and says whether all are known. None: the
-// pieces have to be read field by field.
+// Puts the codes of the pieces between commas into a cell, and says whether all are known. None:
+// the pieces have to be read field by field.
 fn put_codes(dict: &Dict, text: &str, cell: &mut Cell) -> Option<bool>
     requires { length cell.old ≡ length dict.now.lists }
     ensures coded { AreCoded result dict.now.lists (pieces text.now) cell.new }
