@@ -1,6 +1,6 @@
 -- A value is needed where the cell without it alone has another closure.
 use Rattle.std.proofs.Common.{◌≡◌, ◌≢◌, ℕ, zero, suc, ◌-◌, ◌<◌, Bool, true, false, max, nat_eq, eqb-true, eq-eqb}
-use Rattle.std.proofs.Common.{if◌then◌else◌, Some, None, drop, get_or, length, setrefl, sym, ap, subst, ◌∙◌, arith}
+use Rattle.std.proofs.Common.{if◌then◌else◌, Some, None, drop, get_or, length, set, refl, sym, ap, subst, ◌∙◌, arith}
 use Rattle.std.proofs.Common.{true≢false}
 use Rattle.std.specs.Int.{bit_at}
 use Rattle.std.specs.Int.Bits.{bit_or}

@@ -6,6 +6,7 @@ use cell_core::Memory;
 use itoa::Buffer;
 
 /// Appends a field, with a comma before it.
+#[inline(always)]
 pub fn push_field(out: &mut Vec<u8>, field: &[u8]) -> Result<(), Memory>
     ensures { OnOk result (out.new.items ≡ out.old.items ++ 44 ∷ field.now) }
 {
