@@ -1,50 +1,37 @@
 // Tests whether a cell that generalizes a class is a lower bound of it.
 ghost use Rattle.std.specs.Prelude.{IsTrue, false, length, ℕ, ◌*◌, ◌+◌, ◌<◌, ◌^◌, ◌≡◌, ◌≤◌};
 ghost use Rattle.tree_search.specs.Found.{IsTreeOf, TreeRows};
-ghost use Rattle.cells_below.specs.Closed.{AreNeeded, IsMarkedBefore, bounds, closes, has_closure_in};
+ghost use Rattle.cells_below.specs.Closed.{AreNeeded, IsMarkedBefore, bounds, closes};
 ghost use Rattle.cells_below.specs.Marks.{is_marked};
 ghost use Rattle.cells_below.specs.Numbers.{cell_of_number};
+ghost use Rattle.cells_below.specs.Search.{IsOnWay};
 
 use crate::marks::Marks;
-use crate::numbers::write_cell;
 use crate::pruned::is_minimal;
+use crate::search::CellSearch;
 use crate::upper::UpperBound;
 use crate::without::has_all_bits;
-use cell_core::{Cell, Steps};
+use cell_core::Steps;
 use qc_arena::Nodes;
 use std::sync::ledger::Ledger;
 
-// Whether the cell's closure is the upper bound.
-fn leads_to<T: Nodes, L: Ledger>(upper: &UpperBound<T>, cell: &Cell, steps: &mut Steps<L>) -> bool
-    requires { length cell.now ≡ length upper.now.cell.now }
-    ensures value { (source : TreeRows) →
-        IsTreeOf upper.now.tree.now.width upper.now.tree.now.tree source →
-        result ≡ has_closure_in source upper.now.cell.now cell.now }
-    ensures steps { steps.new ≤ steps.old + (2 * length cell.now + 2) }
-{
-    match upper.tree.find(cell, steps) {
-        Some(found) => found.0 == upper.node.0,
-        None => false,
-    }
-}
-
-/// Sets `cell` to the cell of a number. True if its closure is the upper bound.
+/// Goes over to the cell of a number. True if its closure is the upper bound.
 pub(crate) fn closes_at<T: Nodes, L: Ledger>(
     upper: &UpperBound<T>,
     m: u32,
-    cell: &mut Cell,
+    search: &mut CellSearch,
     steps: &mut Steps<L>,
 ) -> bool
-    requires { length cell.old ≡ length upper.now.cell.now }
+    requires { IsOnWay upper.now.tree.now.width upper.now.tree.now.tree search.old }
     ensures value { (source : TreeRows) →
         IsTreeOf upper.now.tree.now.width upper.now.tree.now.tree source →
         result ≡ closes source upper.now.cell.now m }
-    ensures cell { cell.new ≡ cell_of_number upper.now.cell.now m }
-    ensures dims { length cell.new ≡ length upper.now.cell.now }
+    ensures cell { search.new.cell ≡ cell_of_number upper.now.cell.now m }
+    ensures way { IsOnWay upper.now.tree.now.width upper.now.tree.now.tree search.new }
     ensures steps { steps.new ≤ steps.old + (2 * length upper.now.cell.now + 2) }
 {
-    write_cell(upper.cell, m, cell);
-    leads_to(upper, cell, steps)
+    search.write(upper, m);
+    search.leads_to(upper, steps)
 }
 
 // The same for a number of as many bits as there are values. The cell of the largest is the upper
@@ -52,27 +39,27 @@ pub(crate) fn closes_at<T: Nodes, L: Ledger>(
 fn closes_for_number<T: Nodes, L: Ledger>(
     upper: &UpperBound<T>,
     m: u32,
-    cell: &mut Cell,
+    search: &mut CellSearch,
     steps: &mut Steps<L>,
 ) -> bool
-    requires dims { length cell.old ≡ length upper.now.cell.now }
+    requires way { IsOnWay upper.now.tree.now.width upper.now.tree.now.tree search.old }
     requires number { m < 2 ^ upper.now.values }
     ensures value { (source : TreeRows) →
         IsTreeOf upper.now.tree.now.width upper.now.tree.now.tree source →
         result ≡ closes source upper.now.cell.now m }
-    ensures cell { cell.new ≡ cell_of_number upper.now.cell.now m }
-    ensures dims { length cell.new ≡ length upper.now.cell.now }
+    ensures cell { search.new.cell ≡ cell_of_number upper.now.cell.now m }
+    ensures way { IsOnWay upper.now.tree.now.width upper.now.tree.now.tree search.new }
     ensures steps { steps.new ≤ steps.old + (2 * length upper.now.cell.now + 2) }
 {
     if m + 1 == 1 << upper.values {
-        write_cell(upper.cell, m, cell);
+        search.write(upper, m);
         return true;
     }
-    closes_at(upper, m, cell, steps)
+    closes_at(upper, m, search, steps)
 }
 
-/// Whether the cell of a number is a lower bound of the class; `cell` is then that cell. Marks the
-/// number if its cell is in the class. The smaller numbers must be marked already. Each cell
+/// Whether the cell of a number is a lower bound of the class; the search then has that cell. Marks
+/// the number if its cell is in the class. The smaller numbers must be marked already. Each cell
 /// between one of the class and the upper bound is in the class too. So no search is made if a
 /// number with one bit less is marked, if a needed bit is missing, or for the upper bound itself.
 pub fn bounds_at<T: Nodes, L: Ledger>(
@@ -80,13 +67,13 @@ pub fn bounds_at<T: Nodes, L: Ledger>(
     needed: u32,
     marks: &mut Marks,
     m: u32,
-    cell: &mut Cell,
+    search: &mut CellSearch,
     steps: &mut Steps<L>,
 ) -> bool
     requires needed { (source : TreeRows) →
         IsTreeOf upper.now.tree.now.width upper.now.tree.now.tree source →
         AreNeeded source upper.now.cell.now needed }
-    requires dims { length cell.old ≡ length upper.now.cell.now }
+    requires way { IsOnWay upper.now.tree.now.width upper.now.tree.now.tree search.old }
     requires number { m < 2 ^ upper.now.values }
     requires room { 2 ^ upper.now.values ≤ length marks.old }
     requires below { (source : TreeRows) →
@@ -96,8 +83,8 @@ pub fn bounds_at<T: Nodes, L: Ledger>(
     ensures value { (source : TreeRows) →
         IsTreeOf upper.now.tree.now.width upper.now.tree.now.tree source →
         result ≡ bounds source upper.now.cell.now m }
-    ensures cell { IsTrue result → cell.new ≡ cell_of_number upper.now.cell.now m }
-    ensures dims { length cell.new ≡ length upper.now.cell.now }
+    ensures cell { IsTrue result → search.new.cell ≡ cell_of_number upper.now.cell.now m }
+    ensures way { IsOnWay upper.now.tree.now.width upper.now.tree.now.tree search.new }
     ensures room { length marks.new ≡ length marks.old }
     ensures below { (source : TreeRows) →
         IsTreeOf upper.now.tree.now.width upper.now.tree.now.tree source →
@@ -112,7 +99,7 @@ pub fn bounds_at<T: Nodes, L: Ledger>(
         marks.set(m);
         return false;
     }
-    if !closes_for_number(upper, m, cell, steps) {
+    if !closes_for_number(upper, m, search, steps) {
         return false;
     }
     marks.set(m);

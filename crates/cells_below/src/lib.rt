@@ -6,6 +6,7 @@ mod closed;
 mod marks;
 mod numbers;
 mod pruned;
+mod search;
 mod upper;
 mod without;
 
@@ -14,5 +15,6 @@ pub use cube_defs::Memory;
 pub use marks::Marks;
 pub use numbers::{count_values, flip_bit, is_bit_set, write_cell};
 pub use pruned::is_minimal;
+pub use search::CellSearch;
 pub use upper::UpperBound;
 pub use without::needed;

@@ -20,7 +20,7 @@ ghost use Rattle.quotient_lattice.specs.Joined.{joins};
 use crate::Memory;
 use crate::parent_test::parent_at;
 use cell_core::{Cell, NodeNo, Steps};
-use cells_below::{Marks, UpperBound, bounds_at, count_values, needed};
+use cells_below::{CellSearch, Marks, UpperBound, bounds_at, count_values, needed};
 use qc_arena::Nodes;
 use std::alloc::{AllocError, Global};
 use std::sync::ledger::Ledger;
@@ -96,10 +96,10 @@ fn mark_all<T: Nodes, L: Ledger>(upper: &UpperBound<T>, marks: &mut Marks, steps
     ensures steps { steps.new ≤ steps.old
         + (upper.now.values + 2 ^ upper.now.values) * (2 * length upper.now.cell.now + 2) }
 {
-    let mut cell = upper.cell.copy();
+    let mut search = CellSearch::new(upper);
     let needed = needed(upper, steps);
     'numbers: for m in 0..1 << upper.values {
-        bounds_at(upper, needed, marks, m, &mut cell, steps);
+        bounds_at(upper, needed, marks, m, &mut search, steps);
     }
 }
 

@@ -9,19 +9,19 @@ use Rattle.lower_bounds.proofs.bounds.bounds_of.Goals as goal
 pub numbers-preserved : goal.numbers-preserved
 numbers-preserved g c = record {
   room = omega (arith, c.numbers.invariant.room, c.bounds_at-keep.ensures.room);
-  dims = c.bounds_at-keep.ensures.dims;
+  way = c.bounds_at-keep.ensures.way;
   below = c.bounds_at-keep.ensures.below;
   above = c.bounds_at-keep.ensures.above;
   cells = λ source h. let u = c.args.upper.now.cell.now in
       c.in_ok-push_if.ensures
       ∙ ap₂ (λ cells more. cells ++ more) (c.numbers.invariant.cells source h)
-      (kept_same c.bounds_at-keep.result (bounds source u c.numbers.m) c.bounds_at-keep.new.cell
+      (kept_same c.bounds_at-keep.result (bounds source u c.numbers.m) c.bounds_at-keep.new.search.cell
       (cell_of_number u c.numbers.m) (c.bounds_at-keep.ensures.value source h) c.bounds_at-keep.ensures.cell)
       ∙ cells_more u (bounds source u) c.numbers.m;
   few = omega (
     arith,
     ap length c.in_ok-push_if.ensures,
-    one_more c.bounds_at-keep.result c.bounds_at-keep.new.cell c.numbers.cells,
+    one_more c.bounds_at-keep.result c.bounds_at-keep.new.search.cell c.numbers.cells,
   );
   steps = omega (arith, c.numbers.invariant.steps, c.bounds_at-keep.ensures.steps);
   needed = c.numbers.invariant.needed;

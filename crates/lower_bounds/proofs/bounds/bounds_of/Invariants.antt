@@ -4,12 +4,13 @@ use Rattle.tree_search.specs.Found.{IsTreeOf, TreeRows}
 use Rattle.cells_below.specs.Closed.{AreNeeded, IsMarkedBefore, bounds}
 use Rattle.cells_below.specs.Marks.{is_marked}
 use Rattle.cells_below.specs.Numbers.{cell_of_number}
+use Rattle.cells_below.specs.Search.{IsOnWay}
 use Rattle.lower_bounds.proofs.bounds.bounds_of.Given as goal
 
 abbrev pub invariant-numbers : goal.invariant-numbers
 invariant-numbers g l = record {
   room : 2 ^ l.upper.values ≤ length l.marks;
-  dims : length l.cell ≡ length l.upper.cell.now;
+  way : IsOnWay l.upper.tree.now.width l.upper.tree.now.tree l.search;
   below : (source : TreeRows) → IsTreeOf l.upper.tree.now.width l.upper.tree.now.tree source
       → IsMarkedBefore source l.upper.cell.now l.marks l.m;
   above : (j : ℕ) → l.m ≤ j → is_marked l.marks j ≡ false;
