@@ -131,19 +131,19 @@ def behind(name, script, schema, load, most):
     say_times(f"{name}, after its load", measured("run", schema, script), most, load)
 
 load = measured("run", "rows.schema", "load300000")
-say_times("load of 300,000 rows", load, 1.25)
-say_peaks(load, 1.2)
-bounds = {"points": 1.1, "parents": 1.5, "children": 1.5}
+say_times("load of 300,000 rows", load, 0.9)
+say_peaks(load, 0.85)
+bounds = {"parents": 1.5, "children": 1.5, "batches": 1.1}
 for name in ("points", "bounds", "parents", "children", "ranges", "icebergs", "batches"):
-    behind(name, name, "rows.schema", load, bounds.get(name, 1.25))
+    behind(name, name, "rows.schema", load, bounds.get(name, 1.0))
 widened = measured("run", "wide.schema", "widened")
 say_times("load and widen", widened, 1.1)
 say_peaks(widened, 1.0)
 indexed = measured("run", "indexed.schema", "load300000")
-say_times("what three index lines add", indexed, 1.25, load)
+say_times("what three index lines add", indexed, 1.1, load)
 for name in ("icebergs", "batches"):
-    behind(f"{name} with three indexes", name, "indexed.schema", indexed, 1.25)
-say_times("500,000 rows and points of one dimension", measured("run", "one.schema", "one"), 1.25)
+    behind(f"{name} with three indexes", name, "indexed.schema", indexed, bounds.get(name, 1.0))
+say_times("500,000 rows and points of one dimension", measured("run", "one.schema", "one"), 1.0)
 behind("one answer of 100,000 cells", "cells", "one.schema", measured("run", "one.schema", "many"), 1.1)
 say_times("pack", measured("pack", "rows.schema", "load300000"), 1.0)
 with open("snapshot", "wb") as file:
@@ -151,7 +151,7 @@ with open("snapshot", "wb") as file:
 say_times("open", measured("open", "snapshot", "none"), 1.0)
 small, large = measured("run", "rows.schema", "load50000"), measured("run", "rows.schema", "load400000")
 growth = [large[k][2] / small[k][2] for k in (0, 1)]
-print(f"400,000 rows take {growth[0]:.1f} times as long as 50,000 (at most 8.5), the other program {growth[1]:.1f} times")
+print(f"400,000 rows take {growth[0]:.1f} times as long as 50,000 (at most 8.2), the other program {growth[1]:.1f} times")
 for rows in ("20000", "200000"):
-    say_times(f"gen {rows} 7", measured("gen", rows, "7"), 1.5)
+    say_times(f"gen {rows} 7", measured("gen", rows, "7"), 1.1)
 PY

@@ -16,6 +16,7 @@ use Rattle.tree_laws.proofs.CallerLemmas.{no_root}
 use Rattle.tree_search.specs.Found.{IsNumberOfCell, IsTreeOf, TreeRows, closure_in}
 use Rattle.tree_search.proofs.CallerLemmas.{rest, there_is}
 use Rattle.cells_below.specs.Closed.{IsReached, has_closure_in}
+use Rattle.cells_below.specs.Numbers.{cell_of_number}
 use Rattle.cells_below.specs.Search.{IsOnWay, node_before}
 use Rattle.cells_below.specs.declared.search.CellSearch.{CellSearch}
 
@@ -60,7 +61,7 @@ at_last P n last before i l = go (eq-or-lt_of_le (omega arith))
     go (inl same) = subst P (sym same) last
     go (inr less) = before i less
 
-module _ (width : ℕ) (tree : Tree ℕ) (s : CellSearch) (way : IsOnWay width tree s) where
+module _ (width : ℕ) (tree : Tree ℕ) (u : Cell ℕ) (s : CellSearch) (way : IsOnWay width tree u s) where
   -- at the last node that it knows
   module _ (i k : ℕ) (known : s.known ≡ i + 1) (at : k ≡ node_before s.nodes i) where
     pub stands_there : IsSome (map.get tree k)
@@ -71,18 +72,20 @@ module _ (width : ℕ) (tree : Tree ℕ) (s : CellSearch) (way : IsOnWay width t
         = subst (λ n. IsReached tree source s.cell n i) (sym at) (way.reached source h i (omega (arith, known)))
 
   -- one node more
-  pub way_pushed : (t : CellSearch) (k : ℕ) → s.known ≤ width → t.cell ≡ s.cell → t.known ≡ s.known + 1
+  pub way_pushed : (t : CellSearch) (k : ℕ) → s.known ≤ width → t.cell ≡ s.cell → t.number ≡ s.number
+      → t.known ≡ s.known + 1
       → node_before t.nodes s.known ≡ k
       → ((i : ℕ) → i < s.known → node_before t.nodes i ≡ node_before s.nodes i) → IsSome (map.get tree k)
       → ((source : TreeRows) → IsTreeOf width tree source → IsReached tree source s.cell k s.known)
-      → IsOnWay width tree t
-  way_pushed t k few cell known here others there reached = record {
+      → IsOnWay width tree u t
+  way_pushed t k few cell number known here others there reached = record {
+    cell = cell ∙ way.cell ∙ ap (cell_of_number u) (sym number);
     long = ap length cell ∙ way.long;
     few = omega (arith, known, few);
     there = λ i l. at_last (λ i. IsSome (map.get tree (node_before t.nodes i))) s.known
         (subst (λ n. IsSome (map.get tree n)) (sym here) there)
         (λ i l. subst (λ n. IsSome (map.get tree n)) (sym (others i l)) (way.there i l)) i (omega (arith, known, l));
-    reached = λ source h i l. subst (λ u. IsReached tree source u (node_before t.nodes i) i) (sym cell)
+    reached = λ source h i l. subst (λ v. IsReached tree source v (node_before t.nodes i) i) (sym cell)
         (at_last (λ i. IsReached tree source s.cell (node_before t.nodes i) i) s.known
         (subst (λ n. IsReached tree source s.cell n s.known) (sym here) (reached source h))
         (λ i l. subst (λ n. IsReached tree source s.cell n i) (sym (others i l)) (way.reached source h i l)) i

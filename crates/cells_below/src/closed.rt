@@ -22,12 +22,14 @@ pub(crate) fn closes_at<T: Nodes, L: Ledger>(
     search: &mut CellSearch,
     steps: &mut Steps<L>,
 ) -> bool
-    requires { IsOnWay upper.now.tree.now.width upper.now.tree.now.tree search.old }
+    requires { IsOnWay upper.now.tree.now.width upper.now.tree.now.tree upper.now.cell.now
+        search.old }
     ensures value { (source : TreeRows) →
         IsTreeOf upper.now.tree.now.width upper.now.tree.now.tree source →
         result ≡ closes source upper.now.cell.now m }
     ensures cell { search.new.cell ≡ cell_of_number upper.now.cell.now m }
-    ensures way { IsOnWay upper.now.tree.now.width upper.now.tree.now.tree search.new }
+    ensures way { IsOnWay upper.now.tree.now.width upper.now.tree.now.tree upper.now.cell.now
+        search.new }
     ensures steps { steps.new ≤ steps.old + (2 * length upper.now.cell.now + 2) }
 {
     search.write(upper, m);
@@ -42,13 +44,15 @@ fn closes_for_number<T: Nodes, L: Ledger>(
     search: &mut CellSearch,
     steps: &mut Steps<L>,
 ) -> bool
-    requires way { IsOnWay upper.now.tree.now.width upper.now.tree.now.tree search.old }
+    requires way { IsOnWay upper.now.tree.now.width upper.now.tree.now.tree upper.now.cell.now
+        search.old }
     requires number { m < 2 ^ upper.now.values }
     ensures value { (source : TreeRows) →
         IsTreeOf upper.now.tree.now.width upper.now.tree.now.tree source →
         result ≡ closes source upper.now.cell.now m }
     ensures cell { search.new.cell ≡ cell_of_number upper.now.cell.now m }
-    ensures way { IsOnWay upper.now.tree.now.width upper.now.tree.now.tree search.new }
+    ensures way { IsOnWay upper.now.tree.now.width upper.now.tree.now.tree upper.now.cell.now
+        search.new }
     ensures steps { steps.new ≤ steps.old + (2 * length upper.now.cell.now + 2) }
 {
     if m + 1 == 1 << upper.values {
@@ -73,7 +77,8 @@ pub fn bounds_at<T: Nodes, L: Ledger>(
     requires needed { (source : TreeRows) →
         IsTreeOf upper.now.tree.now.width upper.now.tree.now.tree source →
         AreNeeded source upper.now.cell.now needed }
-    requires way { IsOnWay upper.now.tree.now.width upper.now.tree.now.tree search.old }
+    requires way { IsOnWay upper.now.tree.now.width upper.now.tree.now.tree upper.now.cell.now
+        search.old }
     requires number { m < 2 ^ upper.now.values }
     requires room { 2 ^ upper.now.values ≤ length marks.old }
     requires below { (source : TreeRows) →
@@ -84,7 +89,8 @@ pub fn bounds_at<T: Nodes, L: Ledger>(
         IsTreeOf upper.now.tree.now.width upper.now.tree.now.tree source →
         result ≡ bounds source upper.now.cell.now m }
     ensures cell { IsTrue result → search.new.cell ≡ cell_of_number upper.now.cell.now m }
-    ensures way { IsOnWay upper.now.tree.now.width upper.now.tree.now.tree search.new }
+    ensures way { IsOnWay upper.now.tree.now.width upper.now.tree.now.tree upper.now.cell.now
+        search.new }
     ensures room { length marks.new ≡ length marks.old }
     ensures below { (source : TreeRows) →
         IsTreeOf upper.now.tree.now.width upper.now.tree.now.tree source →

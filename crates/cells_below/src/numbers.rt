@@ -1,5 +1,5 @@
 // The cells that generalize a cell, named by numbers.
-ghost use Rattle.std.specs.Prelude.{None, if◌then◌else◌, length, slice_index_or, slice_set, ℕ, ◌<◌, ◌≡◌, ◌≤◌};
+ghost use Rattle.std.specs.Prelude.{None, if◌then◌else◌, length, slice_index_or, ℕ, ◌<◌, ◌≡◌, ◌≤◌};
 ghost use Rattle.cell_core.specs.Entry.{IsSmall, value_in};
 ghost use Rattle.cells_below.specs.Numbers.{cell_of_number, has_bit, turned};
 ghost use Rattle.cube_laws.specs.Parts.{value_count};
@@ -47,43 +47,43 @@ fn entry_if_bit(entry: Entry, m: u32, k: u32) -> Entry
     if is_bit_set(m, k) { entry } else { Entry::Any }
 }
 
-// Sets an entry of a cell. The dimension if that changes the entry, and `first` if not.
-fn replace_entry(out: &mut Cell, dim: u8, entry: Entry, first: u8) -> u8
-    requires dim { dim < length out.old }
-    requires entry { IsSmall entry }
-    requires first { dim ≤ first }
-    ensures value { out.new ≡ slice_set out.old dim (value_in entry) }
-    ensures dims { length out.new ≡ length out.old }
-    ensures same { (j : ℕ) →
-        j < result → slice_index_or out.new j None ≡ slice_index_or out.old j None }
-    ensures first { dim ≤ result }
-    ensures less { result ≤ first }
-{
-    if out.get(dim) == entry {
-        return first;
-    }
-    out.set(dim, entry);
-    dim
-}
-
-/// Writes the cell of a number, which generalizes u, over `out`. The first dimension in which it
-/// differs from what `out` was; the number of dimensions if it is the same.
-pub fn write_cell(u: &Cell, m: u32, out: &mut Cell) -> u8
+/// Writes the cell of a number, which generalizes u, over `out`.
+pub fn write_cell(u: &Cell, m: u32, out: &mut Cell)
     requires { length out.old ≡ length u.now }
     ensures value { out.new ≡ cell_of_number u.now m }
     ensures dims { length out.new ≡ length u.now }
-    ensures same { (j : ℕ) →
-        j < result → slice_index_or out.new j None ≡ slice_index_or out.old j None }
-    ensures few { result ≤ length u.now }
 {
-    let mut first = u.dims();
     let mut k = 0;
     'dims: for dim in (0..u.dims()).rev() {
         let entry = u.get(dim);
-        first = replace_entry(out, dim, entry_if_bit(entry, m, k), first);
+        out.set(dim, entry_if_bit(entry, m, k));
         if entry != Entry::Any {
             k += 1;
         }
     }
-    first
+}
+
+/// Turns the cell of a number into that of another one. Returns a dimension before which both cells
+/// are alike. The bits are gone through from the lowest up to the highest that differs.
+pub(crate) fn turn_cell(u: &Cell, from: u32, to: u32, cell: &mut Cell) -> u8
+    requires dims { length cell.old ≡ length u.now }
+    requires cell { cell.old ≡ cell_of_number u.now from }
+    ensures dims { length cell.new ≡ length u.now }
+    ensures value { cell.new ≡ cell_of_number u.now to }
+    ensures alike { (j : ℕ) →
+        j < result → slice_index_or cell.new j None ≡ slice_index_or cell.old j None }
+    ensures few { result ≤ length u.now }
+{
+    let mut k = 0;
+    'dims: for dim in (0..u.dims()).rev() {
+        if from >> k == to >> k {
+            return dim + 1;
+        }
+        let entry = u.get(dim);
+        cell.set(dim, entry_if_bit(entry, to, k));
+        if entry != Entry::Any {
+            k += 1;
+        }
+    }
+    0
 }

@@ -6,7 +6,7 @@ ghost use Rattle.cells_below.specs.Closed.{has_closure_in};
 ghost use Rattle.cells_below.specs.Numbers.{cell_of_number};
 ghost use Rattle.cells_below.specs.Search.{IsOnWay, node_before};
 
-use crate::numbers::write_cell;
+use crate::numbers::turn_cell;
 use crate::upper::UpperBound;
 use cell_core::{Cell, NodeNo, Steps};
 use cube_defs::MAX_DIMS;
@@ -20,6 +20,8 @@ use tree_search::step;
 pub struct CellSearch {
     /// The cell that is searched for.
     pub cell: Cell,
+    // Its number.
+    number: u32,
     // Where the search stands before each dimension, as far as it has come.
     nodes: [NodeNo; MAX_DIMS as usize + 1],
     // The number of dimensions before which that is known.
@@ -29,10 +31,12 @@ pub struct CellSearch {
 impl CellSearch {
     /// A search for the upper bound that has not begun.
     pub fn new<T: Nodes>(upper: &UpperBound<T>) -> CellSearch
-        ensures way { IsOnWay upper.now.tree.now.width upper.now.tree.now.tree result }
+        ensures way { IsOnWay upper.now.tree.now.width upper.now.tree.now.tree upper.now.cell.now
+            result }
     {
         CellSearch {
             cell: upper.cell.copy(),
+            number: (1 << upper.values) - 1,
             nodes: [NodeNo(0); MAX_DIMS as usize + 1],
             known: 0,
         }
@@ -40,13 +44,16 @@ impl CellSearch {
 
     /// Goes over to the cell of a number.
     pub(crate) fn write<T: Nodes>(&mut self, upper: &UpperBound<T>, m: u32)
-        requires way { IsOnWay upper.now.tree.now.width upper.now.tree.now.tree self.old }
-        ensures way { IsOnWay upper.now.tree.now.width upper.now.tree.now.tree self.new }
+        requires way { IsOnWay upper.now.tree.now.width upper.now.tree.now.tree upper.now.cell.now
+            self.old }
+        ensures way { IsOnWay upper.now.tree.now.width upper.now.tree.now.tree upper.now.cell.now
+            self.new }
         ensures cell { self.new.cell ≡ cell_of_number upper.now.cell.now m }
     {
-        let same = write_cell(upper.cell, m, &mut self.cell);
-        if same < self.known {
-            self.known = same + 1;
+        let alike = turn_cell(upper.cell, self.number, m, &mut self.cell);
+        self.number = m;
+        if alike < self.known {
+            self.known = alike + 1;
         }
     }
 
@@ -58,6 +65,7 @@ impl CellSearch {
         ensures others { (i : ℕ) →
             i < self.old.known → node_before self.new.nodes i ≡ node_before self.old.nodes i }
         ensures cell { self.new.cell ≡ self.old.cell }
+        ensures number { self.new.number ≡ self.old.number }
     {
         self.nodes[self.known as usize] = node;
         self.known += 1;
@@ -69,11 +77,13 @@ impl CellSearch {
         upper: &UpperBound<T>,
         steps: &mut Steps<L>,
     ) -> bool
-        requires way { IsOnWay upper.now.tree.now.width upper.now.tree.now.tree self.old }
+        requires way { IsOnWay upper.now.tree.now.width upper.now.tree.now.tree upper.now.cell.now
+            self.old }
         ensures value { (source : TreeRows) →
             IsTreeOf upper.now.tree.now.width upper.now.tree.now.tree source →
             result ≡ has_closure_in source upper.now.cell.now self.old.cell }
-        ensures way { IsOnWay upper.now.tree.now.width upper.now.tree.now.tree self.new }
+        ensures way { IsOnWay upper.now.tree.now.width upper.now.tree.now.tree upper.now.cell.now
+            self.new }
         ensures cell { self.new.cell ≡ self.old.cell }
         ensures steps { steps.new ≤ steps.old + (2 * length upper.now.cell.now + 2) }
     {
@@ -88,12 +98,14 @@ impl CellSearch {
 
     // The same for a search that has begun.
     fn goes_to<T: Nodes, L: Ledger>(&mut self, upper: &UpperBound<T>, steps: &mut Steps<L>) -> bool
-        requires way { IsOnWay upper.now.tree.now.width upper.now.tree.now.tree self.old }
+        requires way { IsOnWay upper.now.tree.now.width upper.now.tree.now.tree upper.now.cell.now
+            self.old }
         requires begun { 0 < self.old.known }
         ensures value { (source : TreeRows) →
             IsTreeOf upper.now.tree.now.width upper.now.tree.now.tree source →
             result ≡ has_closure_in source upper.now.cell.now self.old.cell }
-        ensures way { IsOnWay upper.now.tree.now.width upper.now.tree.now.tree self.new }
+        ensures way { IsOnWay upper.now.tree.now.width upper.now.tree.now.tree upper.now.cell.now
+            self.new }
         ensures cell { self.new.cell ≡ self.old.cell }
         ensures steps { steps.new ≤ steps.old + 2 * length upper.now.cell.now }
     {

@@ -8,7 +8,7 @@ use Rattle.quotient_lattice.proofs.upward.mark_all.Given as goal
 abbrev pub invariant-numbers : goal.invariant-numbers
 invariant-numbers g l = record {
   room : 2 ^ l.upper.values ≤ length l.marks;
-  way : IsOnWay l.upper.tree.now.width l.upper.tree.now.tree l.search;
+  way : IsOnWay l.upper.tree.now.width l.upper.tree.now.tree l.upper.cell.now l.search;
   below : (source : TreeRows) → IsTreeOf l.upper.tree.now.width l.upper.tree.now.tree source →
       IsMarkedBefore source l.upper.cell.now l.marks l.m;
   above : (j : ℕ) → l.m ≤ j → is_marked l.marks j ≡ false;

@@ -18,11 +18,11 @@ goes_to-requires-clause-way g c =
     let s = c.args.self.now in
     let long = c.requires.way.long in
     elim c.if-self-eq0.branch [
-      | then-self-eq0+in-Some w ↦ subst (IsOnWay _ tree) (sym w.self-is)
-          (way_pushed _ tree s c.requires.way w.push.new.self w.in-Some.root.0 (omega (arith, w.if-self-eq0.true))
-          w.push.ensures.cell w.push.ensures.known w.push.ensures.here w.push.ensures.others
+      | then-self-eq0+in-Some w ↦ subst (IsOnWay _ tree c.args.upper.now.cell.now) (sym w.self-is)
+          (way_pushed _ tree _ s c.requires.way w.push.new.self w.in-Some.root.0 (omega (arith, w.if-self-eq0.true))
+          w.push.ensures.cell w.push.ensures.number w.push.ensures.known w.push.ensures.here w.push.ensures.others
           (there tree w.in-Some.root.0 _ w.in-Some.ensures.some)
           (λ source h. subst (IsReached tree source s.cell w.in-Some.root.0) (sym w.if-self-eq0.true)
           (reached_first tree source s.cell _ h long w.in-Some.root.0 w.in-Some.ensures.some)))
-      | else-self-eq0 w ↦ subst (IsOnWay _ tree) (sym w.self-is) c.requires.way
+      | else-self-eq0 w ↦ subst (IsOnWay _ tree c.args.upper.now.cell.now) (sym w.self-is) c.requires.way
     ]
