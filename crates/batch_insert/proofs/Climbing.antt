@@ -1,7 +1,7 @@
 -- What a node and the tuple share, read on the way up.
 use Rattle.std.proofs.Common.{◌≡◌, ◌≢◌, ℕ, All, List, [], ◌∷◌, is_some, nat_cmp, slice_index_or, suc, ◌+◌, ◌^◌, ◌≤◌, ◌<◌, Bool, true, false}
 use Rattle.std.proofs.Common.{not, ◌&&◌, Option, Some, None, IsSome, length, nat_eq, replicate, slice_get, if◌then◌else◌, refl, sym, ap}
-use Rattle.std.proofs.Common.{subst, ◌∙◌, true≢false, arith, eqb-true}
+use Rattle.std.proofs.Common.{◌∙◌, true≢false, arith, eqb-true}
 use Rattle.std.proofs.lemmas.Nat.{pow_pos}
 use Rattle.std.proofs.lemmas.Bool.{false_from_ne_true}
 use Rattle.std.proofs.Math.Logic.{∥∥₁_elim}
@@ -139,7 +139,7 @@ module _ (t : Cell ℕ) (a : Arena) (ready : IsReady a) (wide : length t ≡ a.w
       × (leq nat_eq (record_at a.now k.0).cell t ≡ own)
   shared_there None k m own e h = cc
   shared_there (Some x) k m own e h
-      = record_shares t a k.0 m own (subst (λ (y : NodeNo). Shares t a.now m own y.0) (some_same e) h)
+      = record_shares t a k.0 m own (rw (← (some_same e)) h)
 
 -- where a label leads
 abbrev pub target : Cell ℕ → Tree ℕ → ℕ → Option NodeNo → Cell ℕ
@@ -168,7 +168,7 @@ module _ (t : Cell ℕ) (tree : Tree ℕ) (i m : ℕ) (own : Bool) where
 
   pub target_apart : (o : Option NodeNo) → IfSome o (λ k. Shares t tree m own k.0) → own ≡ false → IsApart t tree o
   target_apart None h e = tt
-  target_apart (Some k) h e = (h.cell, h.at, subst (λ eq. leq eq h.cell t ≡ false) (sym one_test) (h.below ∙ e))
+  target_apart (Some k) h e = (h.cell, h.at, rw one_test (h.below ∙ e))
 
   pub target_below : (o : Option NodeNo) → IfSome o (λ k. Shares t tree m own k.0)
       → leq nat_eq (target_after_row nat_eq (option_and_then (λ k. cell_at tree k.0) o) t i) t ≡ true

@@ -1,6 +1,6 @@
 -- The steps of a plan and of its writes, part by part.
 use Rattle.std.proofs.Common.{◌≡◌, inl, inr, ℕ, zero, suc, ◌+◌, ◌*◌, ◌^◌, ◌<◌, ◌≤◌, List, [], ◌∷◌, ◌++◌, length, take, get_or, refl, ap}
-use Rattle.std.proofs.Common.{subst, ◌∙◌, arith, length-append}
+use Rattle.std.proofs.Common.{◌∙◌, arith, length-append}
 use Rattle.std.proofs.lemmas.List.Sums.{sum_by-append, sum_by-cons, sum_by_more}
 use Rattle.std.proofs.Math.Nat.{add-mul, mul-le-mul_right, one-le-pow}
 use Rattle.std.specs.List.{sum_by}
@@ -49,10 +49,9 @@ copying_more tree xs ys x s o e w h le
 pub copying_within : {t : Cell ℕ} {a : Arena} (c : Case t a) (x : LabelCopy) → IsCopyOf c x
     → (p : Cell ℕ) (i : ℕ) → IsPrefix c p i → x.mask ≡ mask p → copy_cost a.now x ≤ 1 + 2 * edges_at c p
 copying_within {a = a} c x is p i front dims =
-    subst (λ q. copy_cost a.now x ≤ 1 + 2 * edges_at c q)
-    (prefix_told c is.node p (prefix_before c is.node (depth is.node) is.dim (prefix_deep c is.node is.dim is.front)
+    rw (← (prefix_told c is.node p (prefix_before c is.node (depth is.node) is.dim (prefix_deep c is.node is.dim is.front)
     (omega arith) is.front)
-    (prefix_before c p (depth p) i (prefix_deep c p i front) (omega arith) front) (is.dims ∙ dims)) (copy_within c x is)
+    (prefix_before c p (depth p) i (prefix_deep c p i front) (omega arith) front) (is.dims ∙ dims))) (copy_within c x is)
 
 -- sums over the first parts
 pub taken_length : {X : Type 0} (xs : List X) (k : ℕ) (d : X) → k < length xs

@@ -1,6 +1,6 @@
 -- An insertion costs no more than the nodes that generalize the tuple, and their edges, allow.
 use Rattle.std.proofs.Common.{◌≡◌, inl, inr, ℕ, suc, ◌+◌, ◌*◌, ◌^◌, ◌<◌, ◌≤◌, Bool, true, false, cond, Option, Some, None, List, [], ◌∷◌}
-use Rattle.std.proofs.Common.{◌++◌, filter, map, sum, length, nat_cmp, refl, sym, ap, ap₂, subst, ◌∙◌, arith, true≢false}
+use Rattle.std.proofs.Common.{◌++◌, filter, map, sum, length, nat_cmp, refl, sym, ap, ap₂, ◌∙◌, arith, true≢false}
 use Rattle.std.proofs.lemmas.Bool.{cond-true, cond-false}
 use Rattle.std.proofs.lemmas.List.Sums.{sum_by-cons}
 use Rattle.std.specs.List.{cons_option, filter_map, sum_by}
@@ -69,7 +69,7 @@ no_more xs ys up has =
         let x : (x : Edge ℕ ℕ) × Among x xs × (z ≡ label x) = among_map label z xs m in
         let y = has x.0 x.1 in
         let same : label y.0 ≡ z = (λ i. record { dim = sym y.2 i; value = sym y.3 i; target = 0 }) ∙ sym x.2 in
-        subst (λ w. Among w (map label ys)) same (map_among label y.0 ys y.1)
+        rw (← same) (map_among label y.0 ys y.1)
 
 both_cases : (p q r : Bool) (w : ℕ) → (p ≡ true → r ≡ true) → (q ≡ true → r ≡ true) → (p ≡ true → q ≡ true → ⊥)
     → cond p w 0 + cond q w 0 ≤ cond r w 0
@@ -99,11 +99,10 @@ module _ {t : Cell ℕ} {a : Arena} (c : Case t a) where
       let f : Cell ℕ → ℕ = λ q. cond (cell_eq (eq_by_cmp nat_cmp) (cell_prefix i q) p) (weight c q) 0 in
       let le : sum_by f (p ∷ []) ≤ sum_by f (nodes_with c)
       = sum_within f (p ∷ []) (nodes_with c) ((λ m. m), tt)
-      (λ q m. elim m [ inl e ↦ subst (λ x. Among x (nodes_with c)) (sym e) (listed p front) | inr n ↦ absurd n ]) in
+      (λ q m. elim m [ inl e ↦ rw e (listed p front) | inr n ↦ absurd n ]) in
       let here : f p ≡ weight c p
       = cond-true _ (weight c p) 0
-      (subst (λ x. cell_eq (eq_by_cmp nat_cmp) x p ≡ true) (sym (cell_prefix-beyond i p deep))
-      (cell_eq-same code_equality p)) in
+      (rw (cell_prefix-beyond i p deep) (cell_eq-same code_equality p)) in
       omega (arith, le, here, sum_by-cons f p [])
 
   -- the costs of the nodes with t's value in a dimension, and of those with none there
@@ -126,7 +125,7 @@ module _ {t : Cell ℕ} {a : Arena} (c : Case t a) where
       absurd (omega (arith, d, depth-with_value p i v d l, ap depth s))))
     where
       is : (q p : Cell ℕ) → cell_prefix i q ≡ p → cell_eq (eq_by_cmp nat_cmp) (cell_prefix i q) p ≡ true
-      is q p e = subst (λ x. cell_eq (eq_by_cmp nat_cmp) x p ≡ true) (sym e) (cell_eq-same code_equality p)
+      is q p e = rw e (cell_eq-same code_equality p)
 
   all_cost : (p : Cell ℕ) (i : ℕ) → generalizing_cost c p i ≤ sum_by (weight c) (nodes_with c)
   unfolding generalizing_cost
@@ -217,7 +216,7 @@ module _ {t : Cell ℕ} {a : Arena} (c : Case t a) where
           let len : edges_at c q ≡ length x.edges = ap edges_of k in
           let put : both_of (cond (leq (eq_by_cmp nat_cmp) x.cell u) (x ∷ rest) rest) ≡ both_of (x ∷ rest)
           = ap both_of (cond-true (leq (eq_by_cmp nat_cmp) x.cell u) (x ∷ rest) rest
-          (subst (λ (y : Node ℕ (Cell ℕ)). leq (eq_by_cmp nat_cmp) y.cell u ≡ true) (sym (some_same h)) l)) in
+          (rw (some_same h) l)) in
           grown (edges_at c q) (length x.edges) (sum_by (λ q. 1 + edges_at c q) old) (length rest)
           (sum (map (λ n. length n.edges) rest)) (sum_by (λ q. 1 + edges_at c q) (q ∷ old)) len more
           (sum_by-cons (λ q. 1 + edges_at c q) q old)
@@ -228,7 +227,7 @@ module _ {t : Cell ℕ} {a : Arena} (c : Case t a) where
           grown e m s l k w a b c = omega arith
       one r (Some x) h k false false e l more =
           more ∙ sym (ap both_of (cond-false (leq (eq_by_cmp nat_cmp) x.cell u) (x ∷ rest) rest
-          (subst (λ (y : Node ℕ (Cell ℕ)). leq (eq_by_cmp nat_cmp) y.cell u ≡ false) (sym (some_same h)) l)))
+          (rw (some_same h) l)))
       one r (Some x) h k true false e l more = cc
       one r (Some x) h k false true e l more = cc
 
@@ -244,8 +243,7 @@ module _ {t : Cell ℕ} {a : Arena} (c : Case t a) where
 
   -- a node's cost by its edges
   weight_bound : (n e : ℕ) → 6 + 2 * e + n * (2 * n + 7 + 2 * e) ≤ 128 * (n + 1) ^ 2 * (1 + e)
-  weight_bound n e = subst (λ k. 6 + 2 * e + n * (2 * n + 7 + 2 * e) ≤ 128 * k * (1 + e))
-      (sym (square (n + 1))) (product n e)
+  weight_bound n e = rw (square (n + 1)) (product n e)
     where
       product : (n e : ℕ) → 6 + 2 * e + n * (2 * n + 7 + 2 * e) ≤ 128 * ((n + 1) * (n + 1)) * (1 + e)
       product n e = grind arith

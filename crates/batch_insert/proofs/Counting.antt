@@ -1,6 +1,6 @@
 -- Where a node with the row is still to come, there are more nodes than are there.
 use Rattle.std.proofs.Common.{◌≡◌, ◌≢◌, inl, inr, ℕ, suc, ◌<◌, ◌≤◌, true, Option, Some, None, List, ◌∷◌, ◌++◌, map, length, nat_cmp}
-use Rattle.std.proofs.Common.{replicate, refl, sym, ap, subst, ◌∙◌, arith}
+use Rattle.std.proofs.Common.{replicate, refl, sym, ap, ◌∙◌, arith}
 use Rattle.std.specs.List.{AllByRecursion, sum_by}
 use Rattle.std.specs.Cmp.{nat_cmp_total}
 use Rattle.std.specs.Ordering.{eq_by_cmp}
@@ -16,7 +16,7 @@ use Rattle.qc_arena.specs.Map.{Arena, Known}
 use Rattle.batch_insert.specs.declared.plan.PlannedNode.{PlannedNode}
 use Rattle.batch_insert.specs.Begun.{IsBegun}
 use Rattle.batch_insert.specs.Cases.{Case, IsPrefix, new_nodes}
-use Rattle.batch_insert.specs.Whole.{IsNumberOf, IsPlannedNodeOf}
+use Rattle.batch_insert.specs.Whole.{IsPlannedNodeOf}
 use Rattle.batch_insert.proofs.Each.{flat_prefix, not_begun}
 use Rattle.batch_insert.proofs.Finished.{all_more}
 use Rattle.batch_insert.proofs.Keeping.{cell_known}
@@ -69,13 +69,13 @@ module _ {t : Cell ℕ} {a : Arena} (c : Case t a) where
     each k n h = elim (begun.left k n h) [
       | inl old ↦ node-insert code_equality c.xs c.row c.ys n.cell (c.from.canonical.each k n old).0
       | inr numbered ↦ let q = begun.nodes (mask n.cell) k numbered in
-          node_of_prefix c n.cell (subst (λ x. IsPrefix c x (depth x)) (some_same (sym q.1 ∙ cell_known b k n h)) q.3)
+          node_of_prefix c n.cell (rw (← (some_same (sym q.1 ∙ cell_known b k n h))) q.3)
     ]
 
     numbered_prefix : (k : ℕ) (n : Known) → numbers.get b k ≡ Some n → f (mask n.cell) ≡ Some k
         → IsPrefix c n.cell (depth n.cell)
     numbered_prefix k n h g = let q = begun.nodes (mask n.cell) k g in
-        subst (λ x. IsPrefix c x (depth x)) (some_same (sym q.1 ∙ cell_known b k n h)) q.3
+        rw (← (some_same (sym q.1 ∙ cell_known b k n h))) q.3
 
     once : (k l : ℕ) (n m : Known) → numbers.get b k ≡ Some n → numbers.get b l ≡ Some m → n.cell ≡ m.cell → k ≡ l
     once k l n m h g e = elim (begun.left k n h) [
@@ -83,11 +83,11 @@ module _ {t : Cell ℕ} {a : Arena} (c : Case t a) where
         | inl also ↦ c.from.canonical.once k l n.cell (cell_known a.now k n old) (cell_known a.now l m also
             ∙ ap (λ x. Some x) (sym e))
         | inr numbered ↦ begun.old (mask m.cell) l k n.cell numbered (cell_known a.now k n old)
-            (subst (λ x. IsPrefix c x (depth x)) (sym e) (numbered_prefix l m g numbered)) (ap mask e)
+            (rw e (numbered_prefix l m g numbered)) (ap mask e)
       ]
       | inr numbered ↦ elim (begun.left l m g) [
         | inl also ↦ sym (begun.old (mask n.cell) k l m.cell numbered (cell_known a.now l m also)
-            (subst (λ x. IsPrefix c x (depth x)) e (numbered_prefix k n h numbered)) (ap mask (sym e)))
+            (rw (← e) (numbered_prefix k n h numbered)) (ap mask (sym e)))
         | inr twice ↦ some_same (sym numbered ∙ ap f (ap mask e) ∙ twice)
       ]
     ]
@@ -107,8 +107,8 @@ module _ {t : Cell ℕ} {a : Arena} (c : Case t a) where
   pub spot_more : (b : Tree ℕ) (f : ℕ → Option ℕ) (s : PlannedNode) (max : ℕ) → IsBegun c b f → f s.mask ≡ None
       → IsPlannedNodeOf c s → s.old ≡ None → numbers.len b ≡ max → max < new_nodes c
   spot_more b f s max begun none is old full =
-      let m = more_nodes b f begun is.node (subst (IsPrefix c is.node) (sym is.deep) is.front) (ap f is.dims ∙ none)
-      (subst (λ o. IsNumberOf a.now o is.node) old is.old) in
+      let m = more_nodes b f begun is.node (rw is.deep is.front) (ap f is.dims ∙ none)
+      (rw old at is.old) in
       omega (arith, m, full)
 
   pub top_more : (max : ℕ) → ((k : ℕ) → cell_at a.now k ≢ Some (replicate a.width None)) → numbers.len a.now ≡ max

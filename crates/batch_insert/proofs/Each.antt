@@ -104,8 +104,7 @@ module _ {t : Cell ℕ} {a : Arena} (c : Case t a) (f : ℕ → Option ℕ) (non
   }
 
   pub flat_prefix : IsPrefix c (replicate a.width None) (depth (replicate {A = Option ℕ} a.width None))
-  flat_prefix = subst (IsPrefix c (replicate a.width None)) (sym (depth-any a.width))
-      (root_prefix c (replicate a.width None) refl)
+  flat_prefix = rw (depth-any a.width) (root_prefix c (replicate a.width None) refl)
 
   module _ (g : ℕ → Option ℕ) (k : ℕ) (more : (q : ℕ) → g q ≡ (if nat_eq 0 q then Some k else f q)) where
     pub top_was : IsOld t a.now 0 k → IsBegun c a.now g

@@ -62,14 +62,14 @@ module _ {t : Cell ℕ} {a : Arena} (c : Case t a) where
         k,
         done.1,
         h.2 ∙ ap (λ q. Some q) s.1,
-        subst (λ q. map.get d q ≡ Some done.1) (some_same (sym done.2 ∙ number)) done.3,
+        rw (← (some_same (sym done.2 ∙ number))) done.3,
         done.4,
       )
       | inr s ↦ (h.0, h.1, h.2, others h.0 s.1 ∙ h.3, subst (λ g. HasEndOf c g h.1.cell h.1) (sym same) h.4)
     ]
 
     forced_to : (g : ForcedChild) → x.forced ≡ Some g → IsLast c is.node (Some g) x.before
-    forced_to g e = subst (λ o. IsLast c is.node o x.before) e is.last
+    forced_to g e = rw e at is.last
 
     pub ended_forced : (d : Tree ℕ) (g : ForcedChild) (l v : ℕ) → x.forced ≡ Some g → f g.child ≡ Some l
         → slice_index_or t g.dim None ≡ Some v
@@ -94,9 +94,9 @@ module _ {t : Cell ℕ} {a : Arena} (c : Case t a) where
             g.dim,
             v,
             l,
-            subst (λ p. IsPrefix c p g.dim) (sym n.2) last.0,
+            rw (← n.2) at last.0,
             last.1,
-            subst (λ p. slice_get (new_closure c p) g.dim ≡ Some (Some v)) (sym n.2) entry,
+            rw (← n.2) at entry,
             refl,
             ap (λ h. h l) same ∙ named g l v last.0 last.1 value (last.2 v value).1 child
                 ∙ ap (λ p. Some (with_value p g.dim v)) (sym n.2),
@@ -145,7 +145,7 @@ module _ {t : Cell ℕ} {a : Arena} (c : Case t a) where
         → ((q : ℕ) → q ≢ k → map.get d q ≡ map.get b q)
         → IsStage c d f × EdgesStay b d × IsEnded c d f x × ((y : NodeKind) → IsEnded c b f y → IsEnded c d f y)
     ended_class d s none sum here others =
-        let whole : IsPrefix c is.node (length t) = (subst (λ o. IsLast c is.node o x.before) none is.last).0 in
+        let whole : IsPrefix c is.node (length t) = (rw none at is.last).0 in
         let n = held c f b stage is.node (length t) x.mask k whole is.dims number in
         let m : Known = with_class (Some s) (with_forced None n.0) in
         let after : map.get d k ≡ Some m
@@ -153,8 +153,7 @@ module _ {t : Cell ℕ} {a : Arena} (c : Case t a) where
         let front = prefix_there c f b stage is.node (length t) n.0 whole n.2 in
         let same = names b d k n.0 m n.1 after refl others in
         let own : new_closure c n.0.cell ≡ n.0.cell
-        = subst (λ p. new_closure c p ≡ p) (sym n.2)
-        (prefix_end c is.node (length t) whole (omega arith)) in
+        = rw n.2 (prefix_end c is.node (length t) whole (omega arith)) in
         let done : IsEnded c d f x
         = (
           k,
@@ -162,7 +161,7 @@ module _ {t : Cell ℕ} {a : Arena} (c : Case t a) where
           number,
           after,
           inl (
-            subst (λ p. IsPrefix c p (length t)) (sym n.2) whole,
+            rw n.2 whole,
             refl,
             ap (λ z. Some z) (sum whole
                 ∙ ap (defs.agg (eq_by_cmp nat_cmp) c.measures (c.xs ++ c.row ∷ c.ys)) (sym n.2)),

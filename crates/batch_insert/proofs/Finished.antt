@@ -50,7 +50,7 @@ all_before : (x : Edge ℕ ℕ) (xs : List (Edge ℕ ℕ)) → list_all (label_l
 all_before x [] h y m = absurd m
 all_before x (z ∷ xs) h y m =
     let p = and_parts (label_lt x z) (list_all (label_lt x) xs) h in
-    elim m [ inl s ↦ subst (IsBefore x) (sym s) (before_of x z p.0) | inr n ↦ all_before x xs p.1 y n ]
+    elim m [ inl s ↦ rw s (before_of x z p.0) | inr n ↦ all_before x xs p.1 y n ]
 
 pub ascending : (xs : List (Edge ℕ ℕ)) → rises xs ≡ true → Ascends xs
 ascending [] h = tt
@@ -61,9 +61,9 @@ ascending (x ∷ xs) h = let p = and_parts (list_all (label_lt x) xs) (rises xs)
 label_once : (xs : List (Edge ℕ ℕ)) → Ascends xs → (x y : Edge ℕ ℕ) → Among x xs → Among y xs → HasLabelOf x y → x ≡ y
 label_once [] h x y m n s = absurd m
 label_once (z ∷ xs) h x y (inl m) (inl n) s = m ∙ sym n
-label_once (z ∷ xs) h x y (inl m) (inr n) s = absurd (before_apart x y (subst (λ w. IsBefore w y) (sym m) (h.0 y n)) s)
+label_once (z ∷ xs) h x y (inl m) (inr n) s = absurd (before_apart x y (rw m (h.0 y n)) s)
 label_once (z ∷ xs) h x y (inr m) (inl n) s
-    = absurd (before_apart y x (subst (λ w. IsBefore w x) (sym n) (h.0 x m))
+    = absurd (before_apart y x (rw n (h.0 x m))
     (record { dim = sym s.dim; value = sym s.value }))
 label_once (z ∷ xs) h x y (inr m) (inr n) s = label_once xs h.1 x y m n s
 
@@ -111,9 +111,7 @@ module _ {t : Cell ℕ} {a : Arena} (c : Case t a) (plan : Plan)
         let node : is.node ≡ n.cell
         = prefix_told c is.node n.cell (deep_prefix c is.node y.0.dim is.front) front (is.dims ∙ y.2) in (
           s.1,
-          subst (λ j. Among (record { dim = j; value = v; target = s.1 }) n.edges) y.3
-              (subst (λ w. Among (record { dim = y.0.dim; value = w; target = s.1 }) n.edges) val
-              (subst (λ es. Among (record { dim = y.0.dim; value = s.2; target = s.1 }) es) same s.6)),
+          rw y.3 at (rw val at (rw same at s.6)),
           led s.1 y.0.target s.4 (sym (is.target v (ap (λ j. slice_index_or t j None) y.3 ∙ value))
               ∙ ap (λ j. mask (target_after_row (eq_by_cmp nat_cmp) (old_lead c is.node j v) t j)) y.3
               ∙ ap (λ p. mask (target_after_row (eq_by_cmp nat_cmp) (old_lead c p i v) t i)) node),
@@ -127,8 +125,7 @@ module _ {t : Cell ℕ} {a : Arena} (c : Case t a) (plan : Plan)
             (old_lead c n.cell i v) t i
             = upto-meet_after code_equality (old_closure c (with_value n.cell i v)) t i in
             let low : leq (eq_by_cmp nat_cmp) (target_after_row (eq_by_cmp nat_cmp) (old_lead c n.cell i v) t i) t
-            ≡ true = subst (λ w. leq (eq_by_cmp nat_cmp) w t ≡ true) is
-            (leq_trans code_equality (cell_prefix (suc i) (new_closure c (with_value n.cell i v)))
+            ≡ true = rw (← is) (leq_trans code_equality (cell_prefix (suc i) (new_closure c (with_value n.cell i v)))
             (new_closure c (with_value n.cell i v)) t
             (cell_prefix-leq code_equality (suc i) (new_closure c (with_value n.cell i v)))
             (new_below c (with_value n.cell i v))) in
@@ -155,8 +152,8 @@ module _ {t : Cell ℕ} {a : Arena} (c : Case t a) (plan : Plan)
           | inr x ↦
               let done = copied x.0 x.1 in
               let r = cell_record a.now x.0.from.0 (cell_prefix i u.0) x.3 in
-              subst (HasLabel i v) (edges_at done.0 (one_number x.0.mask done.0 x.2 done.1))
-              (done.2 i v (subst (λ (y : Known). HasLabel i v y.edges) (sym (record_known a.now x.0.from.0 r.0 r.1))
+              rw (← (edges_at done.0 (one_number x.0.mask done.0 x.2 done.1)))
+              (done.2 i v (rw (record_known a.now x.0.from.0 r.0 r.1)
               (source_has c n.cell u.0 i place u.1 x.0.from.0 r.0 r.1 r.2 v q within target_of_label)))
         ]
       where
@@ -169,10 +166,9 @@ module _ {t : Cell ℕ} {a : Arena} (c : Case t a) (plan : Plan)
             let o = cell_record b.now there.0 (cell_prefix i u) (stage.cells there.0 (cell_prefix i u) there.1) in
             let told = (stage.below there.0 o.0 o.1 (ap (λ p. leq nat_eq p t) (o.2 ∙ own) ∙ sym (leq_is n.cell t)
             ∙ prefix_leq c n.cell i place)).1 in
-            subst (HasLabel i v) (edges_at there.0 (one_number (mask o.0.cell) there.0 (ap mask (o.2 ∙ own)) told))
-            (stage.stays there.0 i v
-            (subst (λ (y : Known). HasLabel i v y.edges) (sym (record_known a.now there.0 r.0 r.1))
-            (source_has c n.cell u i place e there.0 r.0 r.1 r.2 v q within target_of_label)))
+            rw (edges_at there.0 (one_number (mask o.0.cell) there.0 (ap mask (o.2 ∙ own)) told)) at (stage.stays there.0 i v
+            (rw (← (record_known a.now there.0 r.0 r.1)) at (source_has c n.cell u i place e there.0 r.0 r.1 r.2 v q within
+            target_of_label)))
 
     edges : HasEdges c n.cell front (cell_at b.now) n.edges
     edges = record {
@@ -203,7 +199,7 @@ module _ {t : Cell ℕ} {a : Arena} (c : Case t a) (plan : Plan)
         let x = node.end in
         let e = ended x.0 x.1 in
         let same : e.1 ≡ n = some_same (sym e.3 ∙ ap (map.get b.now) (one_number x.0.mask e.0 x.2 e.2) ∙ h) in
-        subst (λ m. HasEndOf c (cell_at b.now) m.cell m) same e.4
+        rw (← same) e.4
 
     pub record_is : Some (renamed (cell_at b.now) n) ≡ option_map (renamed (λ q. Some q))
         (node_of nat_cmp c.measures (c.xs ++ c.row ∷ c.ys) n.cell)

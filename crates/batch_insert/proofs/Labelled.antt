@@ -1,7 +1,7 @@
 -- The labels of the node of a prefix of the old closure are labels of the node with the row, but for those with its
 -- value.
 use Rattle.std.proofs.Common.{cond, ◌≡◌, ◌⊎◌, inl, inr, ℕ, zero, suc, ◌≤◌, ◌<◌, Bool, true, false, Option, Some, None, List, [], ◌∷◌, ◌++◌}
-use Rattle.std.proofs.Common.{map, length, nat_cmp, slice_get, slice_index_or, refl, sym, ap, ap₂, subst, ◌∙◌, arith}
+use Rattle.std.proofs.Common.{map, length, nat_cmp, slice_get, slice_index_or, refl, sym, ap, ap₂, ◌∙◌, arith}
 use Rattle.std.proofs.lemmas.Bool.{cond-true, cond-false, and_from}
 use Rattle.std.specs.List.{list_all}
 use Rattle.std.specs.Cmp.{nat_cmp_total}
@@ -148,9 +148,7 @@ module _ {t : Cell ℕ} {a : Arena} (c : Case t a) where
       pub read : renamed (cell_at a.now) n ≡ renamed (λ x. Some x)
           (record_of nat_cmp c.measures (c.xs ++ c.ys) (cell_prefix i u) u)
       read =
-          subst (λ q. renamed (cell_at a.now) n ≡ renamed (λ x. Some x)
-          (record_of nat_cmp c.measures (c.xs ++ c.ys) q u)) cell
-          (record_read nat_cmp_total finmap.nat_cmp-IsAntisymmetric a.width c.measures
+          rw (← cell) (record_read nat_cmp_total finmap.nat_cmp-IsAntisymmetric a.width c.measures
           (c.xs ++ c.ys) c.from.wide a.now c.from.canonical k n u g
           (ap (defs.closure (eq_by_cmp nat_cmp) (c.xs ++ c.ys)) cell ∙ is))
 
@@ -172,15 +170,14 @@ module _ {t : Cell ℕ} {a : Arena} (c : Case t a) where
           let y : (y : Edge ℕ (Cell ℕ)) × Among y m.edges
           × (renamed_edge (cell_at a.now) x ≡ renamed_edge (λ c. Some c) y)
           = among_map (renamed_edge (λ c. Some c)) (renamed_edge (cell_at a.now) x) m.edges
-          (subst (λ zs. Among (renamed_edge (cell_at a.now) x) zs) (ap (λ z. z.edges) read)
-          (map_among (renamed_edge (cell_at a.now)) x n.edges h)) in
+          (rw (← (ap (λ z. z.edges) read)) (map_among (renamed_edge (cell_at a.now)) x n.edges h)) in
           let l = (edges-are nat_cmp_total finmap.nat_cmp-IsAntisymmetric c.measures (c.xs ++ c.ys)
           (cell_prefix i u) u is (cell_prefix-depth_cell_prefix i u) y.0).0 y.1 in
           let d : x.dim ≡ y.0.dim = ap (λ z. z.dim) y.2 in
           let v : x.value ≡ y.0.value = ap (λ z. z.value) y.2 in
           let w : y.0.dim < length t = omega (arith, l.place.within, long) in (
             omega (arith, d, w),
-            subst (IsPrefix c p) (sym d) (source_place y.0.dim l.place.behind l.place.before),
+            rw d (source_place y.0.dim l.place.behind l.place.before),
             y.0.target,
             ap (λ z. z.target) y.2,
             ap₂ (old_lead c p) d v ∙ sym (source_lead y.0.dim y.0.value l.place.behind l.place.before w) ∙ l.leads,
@@ -205,6 +202,5 @@ module _ {t : Cell ℕ} {a : Arena} (c : Case t a) where
           ≡ renamed_edge (cell_at a.now) y)
           = among_map (renamed_edge (cell_at a.now))
           (renamed_edge (λ c. Some c) (record { dim = i; value = v; target = q })) n.edges
-          (subst (λ zs. Among (renamed_edge (λ c. Some c) (record { dim = i; value = v; target = q })) zs)
-          (sym (ap (λ z. z.edges) read)) (map_among (renamed_edge (λ c. Some c)) _ m.edges there)) in
+          (rw (ap (λ z. z.edges) read) (map_among (renamed_edge (λ c. Some c)) _ m.edges there)) in
           (y.0, y.1, ap (λ z. z.dim) (sym y.2), ap (λ z. z.value) (sym y.2))

@@ -1,7 +1,7 @@
 -- Masks of what cells that generalize a tuple, and a node and the tuple, have in common.
 use Rattle.std.proofs.Common.{◌≡◌, ◌≢◌, ℕ, zero, suc, ◌+◌, ◌*◌, ◌-◌, ◌^◌, ◌%◌, ◌/◌, ◌≤◌, ◌<◌, All, Bool, true, false, ◌&&◌, Option, Some}
 use Rattle.std.proofs.Common.{None, [], ◌∷◌, is_some, length, nat_eq, slice_get, slice_index_or, replicate, if◌then◌else◌, refl, sym, ap}
-use Rattle.std.proofs.Common.{ap₂, subst, ◌∙◌, true≢false, arith, pow_mono, pow-suc}
+use Rattle.std.proofs.Common.{ap₂, ◌∙◌, true≢false, arith, pow_mono, pow-suc}
 use Rattle.std.proofs.lemmas.Bool.{and_parts, cond-true, cond-false, false_from_ne_true}
 use Rattle.cube_defs.specs.Cell.{Cell, depth, entry_leq, entry_meet, cell_prefix, leq, mask, meet, depth_with, upto, with_value}
 use Rattle.cube_laws.proofs.CallerLemmas.{nat_equality, cell_prefix-depth, cell_prefix_zero}
@@ -57,7 +57,7 @@ mask_small (Some v ∷ c) = let h = mask_small c in rw pow-suc (omega arith)
 
 pub mask_fits : (c : Cell ℕ) (n : ℕ) → length c ≡ n → n ≤ 16 → mask c < 65536
 mask_fits c n e h = let p : 2 ^ n ≤ 2 ^ 16 = pow_mono h in let q : mask c < 2 ^ n
-    = subst (λ k. mask c < 2 ^ k) e (mask_small c) in omega arith
+    = rw (← e) (mask_small c) in omega arith
 
 shallow : (e : Option ℕ) (d i : ℕ) → depth_with e d ≤ suc i → d ≤ i
 shallow None zero i h = omega arith

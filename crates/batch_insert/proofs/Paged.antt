@@ -38,7 +38,7 @@ module _ (pages : List (Vec (Option NodeNo))) (page : Vec (Option NodeNo)) (m : 
 
   wide : m % 64 < length page.items
   wide = let r : 64 ≤ length page.items
-      = subst (λ o. IfSome o (λ (places : Vec (Option NodeNo)). 64 ≤ length places.items)) at room in omega (arith, r)
+      = rw at at room in omega (arith, r)
 
   abbrev pub new : Vec (Option NodeNo)
   new = with_item page (m % 64) (Some k)

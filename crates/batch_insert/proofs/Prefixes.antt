@@ -49,11 +49,10 @@ module _ {t : Cell ℕ} {a : Arena} (c : Case t a) where
 
   pub prefix_leq : (p : Cell ℕ) (i : ℕ) → IsPrefix c p i → leq (eq_by_cmp nat_cmp) p t ≡ true
   prefix_leq p i h = leq_trans code_equality p (new_closure c p) t
-      (subst (λ x. leq (eq_by_cmp nat_cmp) x (new_closure c p) ≡ true) h
-      (cell_prefix-leq code_equality i (new_closure c p))) (new_below p)
+      (rw h at (cell_prefix-leq code_equality i (new_closure c p))) (new_below p)
 
   pub prefix_deep : (p : Cell ℕ) (i : ℕ) → IsPrefix c p i → depth p ≤ i
-  prefix_deep p i h = subst (λ x. depth x ≤ i) h (depth-cell_prefix-le i (new_closure c p))
+  prefix_deep p i h = rw (← h) (depth-cell_prefix-le i (new_closure c p))
 
   -- what is a prefix before a dimension is one before each between
   pub prefix_before : (p : Cell ℕ) (j i : ℕ) → j ≤ i → depth p ≤ j → IsPrefix c p i → IsPrefix c p j
@@ -93,8 +92,7 @@ module _ {t : Cell ℕ} {a : Arena} (c : Case t a) where
           → leq (eq_by_cmp nat_cmp) (new_closure c (new_closure c p)) (new_closure c p) ≡ true
       go None e = subst (λ x. leq (eq_by_cmp nat_cmp) (new_closure c (new_closure c p)) x ≡ true)
           (sym (ap (meet_after (eq_by_cmp nat_cmp) t) e)) (new_below (new_closure c p))
-      go (Some u) e = subst (λ x. leq (eq_by_cmp nat_cmp) (new_closure c (new_closure c p)) x ≡ true)
-          (ap (meet_after (eq_by_cmp nat_cmp) t) (closure_idem code_equality (c.xs ++ c.ys) p u e ∙ sym e))
+      go (Some u) e = rw (ap (meet_after (eq_by_cmp nat_cmp) t) (closure_idem code_equality (c.xs ++ c.ys) p u e ∙ sym e)) at
           (closure_rises (new_closure c p) u (meet_after_rest code_equality t (old_closure c p) u e))
 
   -- a prefix of a closure is a node
@@ -109,20 +107,18 @@ module _ {t : Cell ℕ} {a : Arena} (c : Case t a) where
       = cell_prefix_mono code_equality i _ _
       (leq_trans code_equality (new_closure c q) (new_closure c n) n (closure_rises q n less) (closure_again p)) in
       leq_antisymm code_equality _ _ down
-      (subst (λ x. leq (eq_by_cmp nat_cmp) x (cell_prefix i (new_closure c q)) ≡ true)
-      (cell_prefix-cell_prefix i i n (omega arith)) up)
+      (rw (cell_prefix-cell_prefix i i n (omega arith)) at up)
 
   -- the target of a label with the row's value
   pub target_prefix : (p : Cell ℕ) (i v : ℕ)
       → IsPrefix c (target_after_row (eq_by_cmp nat_cmp) (old_lead c p i v) t i) (suc i)
-  target_prefix p i v = subst (λ x. IsPrefix c x (suc i))
-      (upto-meet_after code_equality (old_closure c (with_value p i v)) t i) (closure_prefix (with_value p i v) (suc i))
+  target_prefix p i v = rw (← (upto-meet_after code_equality (old_closure c (with_value p i v)) t i))
+      (closure_prefix (with_value p i v) (suc i))
 
   -- the child in the dimension of the closure's next value
   pub next_prefix : (p : Cell ℕ) (i v : ℕ) → IsPrefix c p i → slice_get (new_closure c p) i ≡ Some (Some v)
       → IsPrefix c (with_value p i v) (suc i)
-  next_prefix p i v f e = subst (λ x. IsPrefix c x (suc i))
-      (upto-entry (new_closure c p) i v e ∙ ap (λ x. with_value x i v) f) (closure_prefix p (suc i))
+  next_prefix p i v f e = rw (← (upto-entry (new_closure c p) i v e ∙ ap (λ x. with_value x i v) f)) (closure_prefix p (suc i))
 
   -- a node with a value more
   pub child_prefix : (p : Cell ℕ) (i v : ℕ)
@@ -159,9 +155,8 @@ module _ {t : Cell ℕ} {a : Arena} (c : Case t a) where
       let same : cell_prefix i (new_closure c q) ≡ cell_prefix i q
       = sym (cell_prefix-cell_prefix i (depth q) (new_closure c q) h) ∙ ap (cell_prefix i) f in
       leq_antisymm code_equality _ _
-      (subst (λ x. leq (eq_by_cmp nat_cmp) (cell_prefix i (new_closure c (cell_prefix i q))) x ≡ true) same down)
-      (subst (λ x. leq (eq_by_cmp nat_cmp) x (cell_prefix i (new_closure c (cell_prefix i q))) ≡ true)
-      (cell_prefix-cell_prefix i i q (omega arith)) up)
+      (rw same at down)
+      (rw (cell_prefix-cell_prefix i i q (omega arith)) at up)
 
   -- a node whose prefix before i is p, and p's forced child stands in i: it is p
   pub node_last : (p q : Cell ℕ) (i v : ℕ) → IsPrefix c p i → i < length t
@@ -172,7 +167,7 @@ module _ {t : Cell ℕ} {a : Arena} (c : Case t a) where
       go (inl h) = sym (cell_prefix-beyond (suc i) q h) ∙ k
       go (inr h) =
           let above : leq (eq_by_cmp nat_cmp) p q ≡ true
-          = subst (λ x. leq (eq_by_cmp nat_cmp) x q ≡ true) k (cell_prefix-leq code_equality (suc i) q) in
+          = rw (← k) (cell_prefix-leq code_equality (suc i) q) in
           let there : slice_get (new_closure c q) i ≡ Some (Some v)
           = value_above code_equality (new_closure c p) (new_closure c q) i v (closure_rises p q above) e in
           let there : slice_get q i ≡ Some (Some v) = ap (λ x. slice_get x i) (sym fq)
@@ -202,7 +197,7 @@ module _ {t : Cell ℕ} {a : Arena} (c : Case t a) where
           let same : w ≡ v = let z : Some (Some w) ≡ Some (Some v) = sym is ∙ e in cc in
           let cut : cell_prefix (suc i) q ≡ with_value p i v = upto-entry q i w h
           ∙ ap₂ (λ x y. with_value x i y) k same in
-          inr (cut, subst (λ x. IsPrefix c x (suc i)) cut (node_prefix q (suc i) (deep (le_or_lt (depth q) i) h) f))
+          inr (cut, rw (← cut) (node_prefix q (suc i) (deep (le_or_lt (depth q) i) h) f))
         where
           deep : ((depth q ≤ i) ⊎ (suc i ≤ depth q)) → slice_get q i ≡ Some (Some w) → suc i ≤ depth q
           deep (inl d) h = absurd (not_any (sym h ∙ any_after q i d (omega (arith, l, long))))

@@ -63,9 +63,8 @@ module _ (b d : Tree ℕ) (k : ℕ) (n m : Known) (before : map.get b k ≡ Some
 
   pub labels : ((i v : ℕ) → HasLabel i v n.edges → HasLabel i v m.edges) → LabelsStay b d
   labels more q i v h = elim (eqb_tells q k) [
-    | inl s ↦ subst (λ (r : Known). HasLabel i v r.edges) (sym (ap (record_at d) s.1 ∙ record_known d k m after))
-        (more i v (subst (λ (r : Known). HasLabel i v r.edges) (ap (record_at b) s.1 ∙ record_known b k n before) h))
-    | inr s ↦ subst (λ (r : Known). HasLabel i v r.edges) (ap record_or (sym (others q s.1))) h
+    | inl s ↦ rw (ap (record_at d) s.1 ∙ record_known d k m after) (more i v (rw (← (ap (record_at b) s.1 ∙ record_known b k n before)) h))
+    | inr s ↦ rw (← (ap record_or (sym (others q s.1)))) h
   ]
 
   pub edges : m.edges ≡ n.edges → EdgesStay b d
@@ -86,15 +85,14 @@ module _ (b d : Tree ℕ) (k : ℕ) (n m : Known) (before : map.get b k ≡ Some
       cells = λ l p h. name l ∙ stage.cells l p h;
       apart = apart;
       stays = λ l i v h. labels more l i v (stage.stays l i v h);
-      sound = λ l r h e. subst (λ g. IsSound c g r) (sym names) (sound l r h e (eqb_tells l k));
+      sound = λ l r h e. rw names (sound l r h e (eqb_tells l k));
     }
       where
         below : (l : ℕ) (r : Known) → map.get d l ≡ Some r → leq nat_eq r.cell t ≡ true
             → IsPrefix c r.cell (depth r.cell) × (f (mask r.cell) ≡ Some l)
         below l r h e =
             let o = cell_record b l r.cell (sym (name l) ∙ cell_known d l r h) in
-            subst (λ p. IsPrefix c p (depth p) × (f (mask p) ≡ Some l)) o.2
-            (stage.below l o.0 o.1 (ap (λ p. leq nat_eq p t) o.2 ∙ e))
+            rw (← o.2) (stage.below l o.0 o.1 (ap (λ p. leq nat_eq p t) o.2 ∙ e))
 
         apart : (l : ℕ) (r : Known) → map.get a.now l ≡ Some r → leq nat_eq r.cell t ≡ false → map.get d l ≡ Some r
         apart l r g e = elim (eqb_tells l k) [
@@ -124,14 +122,12 @@ module _ {t : Cell ℕ} {a : Arena} (c : Case t a) where
     parent = is.parent;
     rises = rises-put e n.edges is.rises;
     place = λ x m. elim (among_put e n.edges x m) [
-      | inl s ↦ subst (λ (y : Edge ℕ ℕ). (y.dim < length t)
-          × IsPrefix c n.cell y.dim) (sym s) (fits.0, fits.1)
+      | inl s ↦ rw s (fits.0, fits.1)
       | inr o ↦ is.place x o
     ];
     leads = λ x m. elim (among_put e n.edges x m) [
       | inl s
-          ↦ subst (λ (y : Edge ℕ ℕ). (new_lead c n.cell y.dim y.value ≡ name y.target)
-          ⊎ (slice_index_or t y.dim None ≡ Some y.value)) (sym s) fits.2
+          ↦ rw s fits.2
       | inr o ↦ is.leads x o
     ];
     class = is.class;
@@ -158,8 +154,7 @@ module _ {t : Cell ℕ} {a : Arena} (c : Case t a) where
 
     pub prefix_there : (p : Cell ℕ) (i : ℕ) (n : Known) → IsPrefix c p i → n.cell ≡ p → IsPrefix c n.cell (depth n.cell)
     prefix_there p i n front e
-        = subst (λ q. IsPrefix c q (depth q)) (sym e)
-        (prefix_before c p (depth p) i (prefix_deep c p i front) (omega arith) front)
+        = rw e (prefix_before c p (depth p) i (prefix_deep c p i front) (omega arith) front)
 
     -- the labels of another node
     module _ (x : LabelCopy) (is : IsCopyOf c x) (k : ℕ) (number : f x.mask ≡ Some k) where
@@ -167,7 +162,7 @@ module _ {t : Cell ℕ} {a : Arena} (c : Case t a) where
       copied_self e = (
         stage,
         λ q i v h. h,
-        (k, number, λ i v h. subst (λ q. HasLabel i v (record_at b q).edges) e (stage.stays x.from.0 i v h)),
+        (k, number, λ i v h. rw (← e) (stage.stays x.from.0 i v h)),
       )
 
       -- another node's prefix that generalizes t is the node itself
@@ -207,8 +202,7 @@ module _ {t : Cell ℕ} {a : Arena} (c : Case t a) where
           let after : map.get d k ≡ Some (with_edges es n.0) = here ∙ ap (option_map (with_edges es)) n.1 in
           let same : es ≡ r.0.edges = ap (λ (y : Known). y.edges) (record_known b x.from.0 r.0 r.3) in
           let fits : (e : Edge ℕ ℕ) → Among e es → Fits (cell_at b) n.0.cell e
-          = λ e m. subst (λ p. Fits (cell_at b) p e) (sym n.2)
-          (fit r.0 r.1 r.2 e (subst (λ ys. Among e ys) same m)) in
+          = λ e m. rw n.2 (fit r.0 r.1 r.2 e (rw (← same) m)) in
           let old : (record_at a.now x.from.0).edges ≡ es
           = ap (λ (y : Known). y.edges) (record_known a.now x.from.0 r.0 r.1) ∙ sym same in (
             staged b d k n.0 (with_edges es n.0) n.1 after refl others c f
@@ -218,9 +212,7 @@ module _ {t : Cell ℕ} {a : Arena} (c : Case t a) where
             (
               k,
               number,
-              λ i v h. subst (λ (y : Known). HasLabel i v y.edges)
-                  (sym (record_known d k (with_edges es n.0) after))
-                  (labels_here es n.0.edges i v (subst (HasLabel i v) old h)),
+              λ i v h. rw (record_known d k (with_edges es n.0) after) (labels_here es n.0.edges i v (rw (← old) h)),
             ),
           )
         where

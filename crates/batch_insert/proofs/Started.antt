@@ -1,6 +1,6 @@
 -- Once all nodes with the row have their numbers, their records are sound.
 use Rattle.std.proofs.Common.{◌≡◌, ◌⊎◌, inl, inr, ℕ, ◌<◌, Bool, true, false, cond, Option, Some, None, IsSome, ◌∷◌, ◌++◌, length, nat_cmp}
-use Rattle.std.proofs.Common.{nat_eq, refl, sym, ap, slice_index_or, subst, ◌∙◌}
+use Rattle.std.proofs.Common.{nat_eq, refl, sym, ap, slice_index_or, ◌∙◌}
 use Rattle.std.proofs.lemmas.Bool.{cond-true}
 use Rattle.std.specs.Ordering.{eq_by_cmp}
 use Rattle.std.specs.Option.{option_map}
@@ -68,8 +68,7 @@ module _ {t : Cell ℕ} {a : Arena} (c : Case t a) where
         go true e h =
             let same : shut.0 ≡ n.cell = cell_eq-exact code_equality _ _ e ∙ shut.2 in
             inr (leq_antisymm code_equality (new_closure c n.cell) n.cell
-            (subst (λ x. leq (eq_by_cmp nat_cmp) (new_closure c n.cell) x ≡ true) same
-            (meet_after_rest code_equality t (old_closure c n.cell) shut.0 shut.1))
+            (rw same at (meet_after_rest code_equality t (old_closure c n.cell) shut.0 shut.1))
             (above_self c n.cell (prefix_leq c n.cell (depth n.cell) front)))
 
     pub old_sound : IsSound c name n
@@ -101,8 +100,8 @@ module _ {t : Cell ℕ} {a : Arena} (c : Case t a) where
   bare_sound b n bare = record {
     parent = bare.parent;
     rises = ap rises bare.edges;
-    place = λ x m. absurd (subst (λ es. Among x es) bare.edges m);
-    leads = λ x m. absurd (subst (λ es. Among x es) bare.edges m);
+    place = λ x m. absurd (rw bare.edges at m);
+    leads = λ x m. absurd (rw bare.edges at m);
     class = inl bare.class;
   }
 
@@ -124,7 +123,7 @@ module _ {t : Cell ℕ} {a : Arena} (c : Case t a) where
       | inl old ↦ old_sound (cell_at b) begun.cells k n old front
       | inr numbered ↦ elim (begun.records (mask n.cell) k numbered) [
         | inl same ↦ old_sound (cell_at b) begun.cells k n (sym same ∙ h) front
-        | inr new ↦ bare_sound b n (subst (IsBare b) (some_same (sym new.2 ∙ h)) new.3)
+        | inr new ↦ bare_sound b n (rw (← (some_same (sym new.2 ∙ h))) new.3)
       ]
     ]
 
@@ -142,7 +141,7 @@ module _ {t : Cell ℕ} {a : Arena} (c : Case t a) where
             )
         | inr numbered ↦
             let p = begun.nodes (mask n.cell) k numbered in
-            (subst (λ q. IsPrefix c q (depth q)) (some_same (sym p.1 ∙ cell_known b k n h)) p.3, numbered)
+            (rw (← (some_same (sym p.1 ∙ cell_known b k n h))) p.3, numbered)
       ]
 
       pub begun_stage : IsStage c b f
@@ -158,6 +157,6 @@ module _ {t : Cell ℕ} {a : Arena} (c : Case t a) where
         where
           stays : (k i v : ℕ) → HasLabel i v (record_at a.now k).edges → (o : Option Known) → map.get a.now k ≡ o
               → HasLabel i v (record_at b k).edges
-          stays k i v h None e = absurd (subst (λ (n : Known). Among h.0 n.edges) (ap record_or e) h.1)
+          stays k i v h None e = absurd (rw (ap record_or e) at h.1)
           stays k i v h (Some n) e
-              = subst (λ (n : Known). HasLabel i v n.edges) (ap record_or (e ∙ sym (unchanged k n e))) h
+              = rw (← (ap record_or (e ∙ sym (unchanged k n e)))) h

@@ -1,5 +1,5 @@
 -- Each node that a plan names has a number, once all nodes have one.
-use Rattle.std.proofs.Common.{◌≡◌, ℕ, suc, All, true, Option, Some, None, IsSome, is_some, length, subst}
+use Rattle.std.proofs.Common.{◌≡◌, ℕ, suc, All, true, Option, Some, None, IsSome, is_some, length}
 use Rattle.std.specs.Prelude.{IfSome}
 use Rattle.cube_defs.specs.Cell.{Cell, depth, mask, with_value}
 use Rattle.cube_defs.specs.Tree.{Tree}
@@ -18,7 +18,7 @@ use Rattle.batch_insert.proofs.Turns.{value_there}
 module _ {t : Cell ℕ} {a : Arena} (full : All (λ e. is_some e ≡ true) t) (c : Case t a)
     (f : ℕ → Option ℕ) (all : (q : Cell ℕ) → IsPrefix c q (depth q) → IsSome (f (mask q))) where
   node_number : (p : Cell ℕ) (i m : ℕ) → IsPrefix c p i → mask p ≡ m → IsSome (f m)
-  node_number p i m front dims = subst (λ x. IsSome (f x)) dims (all p (deep_prefix c p i front))
+  node_number p i m front dims = rw (← dims) (all p (deep_prefix c p i front))
 
   copy_number : (x : LabelCopy) → IsCopyOf c x → IsSome (f x.mask)
   copy_number x is = node_number is.node is.dim x.mask is.front is.dims

@@ -1,4 +1,4 @@
-use Rattle.std.proofs.Common.{◌<◌, length, subst}
+use Rattle.std.proofs.Common.{length}
 use Rattle.batch_insert.specs.Numbered.{numbered}
 use Rattle.batch_insert.proofs.Each.{one_set}
 use Rattle.batch_insert.specs.Planned.{CanSet}
@@ -14,7 +14,7 @@ put_label-requires g c =
       label = record {
         target = number_there c.args.tuple.now c.args.arena.now (numbered c.args.numbers.now) _ _ c.requires.repair.numbers
             c.number_of-target.ensures;
-        dim = subst (λ n. c.args.own.dim < n) c.requires.repair.width can.dim;
+        dim = rw (← c.requires.repair.width) can.dim;
         code = c.tuple_code-code.ensures.small;
       };
     }

@@ -1,7 +1,6 @@
 use Rattle.batch_insert.proofs.Costed.{taken_le, taken_length}
-use Rattle.std.proofs.Common.{length, subst, arith}
+use Rattle.std.proofs.Common.{length, arith}
 use Rattle.std.proofs.lemmas.List.{take_all}
-use Rattle.batch_insert.specs.Stages.{HaveSet}
 use Rattle.batch_insert.proofs.Doing.{set_none, set_next}
 use Rattle.batch_insert.specs.Numbered.{numbered}
 use Rattle.batch_insert.proofs.Keeping.{keeps_same, keeps_then, repair_then}
@@ -56,10 +55,7 @@ tuple_labels-init g c = record {
 
 pub returns-clause-done : goal.returns-clause-done
 returns-clause-done g c
-    = subst (λ xs. HaveSet c.args.tuple.now (numbered c.args.numbers.now) xs c.args.arena.now.now
-    c.tuple_labels.arena.now)
-    (take_all c.tuple_labels.k c.args.tuple_labels.now (omega (arith, c.tuple_labels-test.false)))
-    c.tuple_labels.invariant.done
+    = rw (← (take_all c.tuple_labels.k c.args.tuple_labels.now (omega (arith, c.tuple_labels-test.false)))) c.tuple_labels.invariant.done
 
 pub returns-clause-steps : goal.returns-clause-steps
 returns-clause-steps g c
