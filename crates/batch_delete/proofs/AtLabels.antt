@@ -1,6 +1,6 @@
 -- What a class has at the labels of its prefix in one dimension where it has Any.
 use Rattle.std.proofs.Common.{◌≡◌, ◌<◌, ◌≤◌, ◌+◌, ◌*◌, ◌∙◌, true, ℕ, List, Option, Some, None, ◌∷◌, arith, get_or, length, nat_cmp}
-use Rattle.std.proofs.Common.{slice_get, subst, sym, take}
+use Rattle.std.proofs.Common.{slice_get, sym, take}
 use Rattle.std.specs.Ordering.{eq_by_cmp}
 use Rattle.cube_defs.specs.Cell.{Cell, cell_prefix, cell_of, with_value}
 use Rattle.cube_defs.specs.Rows.{closure}
@@ -47,7 +47,7 @@ module _ {dims : ℕ} {nodes : Tree ℕ} {d : Deletion} {t u : Cell ℕ} {i numb
 
   -- the tuple's value there
   pub value : (v : ℕ) × (slice_get d.r.tuple i ≡ Some v) × (get_or t i None ≡ Some v)
-  value = tuple_value d.r.tuple t i is.row (subst (λ n. i < n) (is.long ∙ sym is.tuple) is.dim)
+  value = tuple_value d.r.tuple t i is.row (rw (← (is.long ∙ sym is.tuple)) is.dim)
 
   -- the closure of the class with that value
   pub closes : (w : Cell ℕ) × (closure (eq_by_cmp nat_cmp) (rows_before d) (with_value u i value.0) ≡ Some w)
@@ -62,8 +62,7 @@ module _ {dims : ℕ} {nodes : Tree ℕ} {d : Deletion} {t u : Cell ℕ} {i numb
   rest_is rising k rest all total =
       all_rest dims nodes d is.tree u i is.any value.0 value.1 is.class.below closes.0 closes.1 is.long is.class.own
       number is.front rising rest
-      (subst (λ (l : List ℕ). IsTotal d u i value.0 closes.0 (value.0 ∷ l) rest) all
-      (total value.0 closes.0 value.2 closes.1))
+      (rw (← all) (total value.0 closes.0 value.2 closes.1))
 
   -- the steps of the labels before the k-th
   pub paid : (k until steps old : ℕ) → k ≤ length edges → until ≤ length edges

@@ -2,7 +2,7 @@
 -- to heirs.
 use Rattle.cube_laws.proofs.CallerLemmas.{none_some}
 use Rattle.std.proofs.Common.{◌≡◌, ◌∙◌, ℕ, zero, suc, ◌<◌, Bool, true, false, not, ◌&&◌, Option, Some, None, List, [], ◌∷◌, filter_map}
-use Rattle.std.proofs.Common.{length, slice_get, nat_eq, refl, sym, ap, ap₂, subst, arith, eqb-true}
+use Rattle.std.proofs.Common.{length, slice_get, nat_eq, refl, sym, ap, ap₂, arith, eqb-true}
 use Rattle.std.proofs.lemmas.Bool.{and_from, and_parts, cond-true, cond-false}
 use Rattle.std.proofs.lemmas.Bool.Decides.{nat_tests}
 use Rattle.std.specs.List.{cons_option, list_all}
@@ -63,7 +63,7 @@ left_was next (y ∷ xs) k x e = go (is_left next y.dim y.value) refl k e (left_
         → ((k : ℕ) (x : Edge ℕ ℕ) → slice_get (first_redirected (left_to next) 0 xs) k ≡ Some x → (j : ℕ)
         × (slice_get xs j ≡ Some x) × (is_left next x.dim x.value ≡ true)) → (j : ℕ)
         × (slice_get (y ∷ xs) j ≡ Some x) × (is_left next x.dim x.value ≡ true)
-    go true s zero e more = (0, e, subst (λ (z : Edge ℕ ℕ). is_left next z.dim z.value ≡ true) (some_same e) s)
+    go true s zero e more = (0, e, rw (← (some_same e)) s)
     go true s (suc k) e more = let m = more k x e in (suc m.0, m.1, m.2)
     go false s k e more = let m = more k x e in (suc m.0, m.1, m.2)
 

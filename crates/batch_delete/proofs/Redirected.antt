@@ -308,9 +308,7 @@ module _ (width : ℕ) (tree : Tree ℕ) (tuple : Cell ℕ) (d : Deletion) (h : 
       (record_at tree q).edges).0 m in
       let a = led_label (new_target tuple (heir_in plan) (next_entry (depth p) w)) o.0 x o.2 in
       let s = led_sound o.0 o.1 a.0 a.1 in
-      subst (λ (z : Edge ℕ ℕ). (c : Cell ℕ) × (name z.target ≡ Some c)
-      × IsLabel nat_cmp (rows_after d) p (next_value nat_cmp (depth p) w)
-      (record { dim = z.dim; value = z.value; target = c })) (sym a.2) s
+      rw a.2 s
 
   pub edge_whole : (y : Edge ℕ (Cell ℕ)) → IsLabel nat_cmp (rows_after d) p (next_value nat_cmp (depth p) w) y
       → (x : Edge ℕ ℕ) × Among x left_edges × (x.dim ≡ y.dim) × (x.value ≡ y.value) × (name x.target ≡ Some y.target)

@@ -77,7 +77,7 @@ once_filtered {X = X} {Y = Y} f (x ∷ xs) apart h
     go more None e = more
     go more (Some y) e = (
       λ m. let z : (z : X) × Among z xs × (f z ≡ Some y) = (among_filter_map f y xs).0 m in
-          h.0 (subst (λ w. Among w xs) (sym (apart x z.0 y (inl refl) (inr z.1) e z.2)) z.1),
+          h.0 (rw (apart x z.0 y (inl refl) (inr z.1) e z.2) z.1),
       more,
     )
 
@@ -104,7 +104,7 @@ one_cell c e (p ∷ ps) h = go (cell_eq nat_eq c p) refl (one_cell c e ps h.1)
     go true s more =
         let all = sum_by-cons (λ p. if cell_eq nat_eq c p then e else 0) p ps in
         let first : (if cell_eq nat_eq c p then e else 0) ≡ e = cond-true _ _ _ s in
-        let rest = none ps (λ m. h.0 (subst (λ x. Among x ps) (cell_eq-exact nat_equality c p s) m)) in
+        let rest = none ps (λ m. h.0 (rw (← (cell_eq-exact nat_equality c p s)) m)) in
         omega arith
     go false s more =
         let all = sum_by-cons (λ p. if cell_eq nat_eq c p then e else 0) p ps in
@@ -406,7 +406,7 @@ module _ (width : ℕ) (old : Tree ℕ) (tuple : Cell ℕ) (d : Deletion) (h : I
       (λ x z m k e. same_place x z m k (ap (λ (n : Node ℕ (Cell ℕ)). n.cell) e)) once in
       let le = sum_within (λ (n : Node ℕ (Cell ℕ)). 1 + length n.edges) (map node_at list)
       (generalizing_nodes nat_cmp (rows_before d) d.r.tuple) apart (λ n m. let b = among_map node_at n list m in
-      subst (λ x. Among x (generalizing_nodes nat_cmp (rows_before d) d.r.tuple)) (sym b.2) (listed b.0 b.1)) in
+      rw b.2 (listed b.0 b.1)) in
       let target_after_row = sum_by-map (λ (n : Node ℕ (Cell ℕ)). 1 + length n.edges) node_at list in
       let alike = sum_alike (λ (b : NodeCell). 1 + edge_many old b) (λ (b : NodeCell). 1 + length (node_at b).edges)
       list (λ b m. ap (λ n. 1 + n) (same_edges b m)) in
@@ -437,7 +437,7 @@ module _ (width : ℕ) (old : Tree ℕ) (tuple : Cell ℕ) (d : Deletion) (h : I
       let le = times_mono (4 * length tuple + 7)
       (length list + sum_by (λ (b : NodeCell). prefix_labels old list b.cell (last_any_of b.cell)) list)
       (length list + length tuple * sum_by (edge_many old) list) (omega arith) in
-      subst (λ n. n ≤ (4 * length tuple + 7) * (length list + length tuple * sum_by (edge_many old) list)) (sym same) le
+      rw same le
 
   -- a count of steps by numbers alone
   bound : (n m e : ℕ) → 1 + n * (2 * m) + m + (2 * n + 3 + (4 * n + 7) * (m + n * e)) + ((5 + 2 * n) * m + 3 * e)
@@ -470,5 +470,4 @@ module _ (width : ℕ) (old : Tree ℕ) (tuple : Cell ℕ) (d : Deletion) (h : I
       (rows_after d) d.r.tuple + 1) =
       more_above ((length tuple + 1) * (length tuple + 1)) (generalizing_size nat_cmp (rows_before d) d.r.tuple)
       (generalizing_size nat_cmp (rows_after d) d.r.tuple) in
-      subst (λ k. s4 ≤ s0 + 256 * k * (affected_size nat_cmp (rows_before d) (rows_after d) d.r.tuple + 1))
-      (sym (square (length tuple + 1))) (omega (arith, a, b, c, e, plan, last, sum_is, grown, up))
+      rw (square (length tuple + 1)) (omega (arith, a, b, c, e, plan, last, sum_is, grown, up))
