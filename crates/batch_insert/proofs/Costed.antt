@@ -60,34 +60,37 @@ taken_length xs k d h = ap length (take_more xs k d h) ∙ length-append (take k
 
 -- one dimension of a node's plan: its weight is so many for each
 module _ (n e : ℕ) where
-  next_times : (i : ℕ) → (i + 1) * (2 * n + 7 + 2 * e) ≡ i * (2 * n + 7 + 2 * e) + (2 * n + 7 + 2 * e)
-  next_times i = let h = add-mul i 1 (2 * n + 7 + 2 * e) in omega (arith, h)
+  abbrev each_dim : ℕ
+  each_dim = 2 * n + 7 + 2 * e
 
-  pub turn_start : (s k b m i : ℕ) → m ≤ k + (1 + 2 * e) → s + m + b ≤ s + k + b + (1 + 2 * e) + i * (2 * n + 7 + 2 * e)
+  next_times : (i : ℕ) → (i + 1) * each_dim ≡ i * each_dim + each_dim
+  next_times i = let h = add-mul i 1 each_dim in omega (arith, h)
+
+  pub turn_start : (s k b m i : ℕ) → m ≤ k + (1 + 2 * e) → s + m + b ≤ s + k + b + (1 + 2 * e) + i * each_dim
   turn_start s k b m i h = omega (arith, h)
 
   pub turn_costs : (s k b start i : ℕ) (s1 k1 b1 more s2 k2 : ℕ)
-      → s + k + b ≤ start + (1 + 2 * e) + i * (2 * n + 7 + 2 * e) → s1 + k1 ≤ s + k + (2 * n + 5) + more → b1 + more ≤ b
+      → s + k + b ≤ start + (1 + 2 * e) + i * each_dim → s1 + k1 ≤ s + k + (2 * n + 5) + more → b1 + more ≤ b
       → s2 ≤ s1 + 1 → k2 ≤ k1 + (1 + 2 * e)
-      → s2 + k2 + b1 ≤ start + (1 + 2 * e) + (i + 1) * (2 * n + 7 + 2 * e)
+      → s2 + k2 + b1 ≤ start + (1 + 2 * e) + (i + 1) * each_dim
   turn_costs s k b start i s1 k1 b1 more s2 k2 h l m o p = omega (arith, h, l, m, o, p, next_times i)
 
   -- the forced child ends it
   pub forced_costs : (s k b start i : ℕ) (s1 k1 b1 more s2 k2 : ℕ)
-      → s + k + b ≤ start + (1 + 2 * e) + i * (2 * n + 7 + 2 * e) → s1 + k1 ≤ s + k + (2 * n + 5) + more → b1 + more ≤ b
+      → s + k + b ≤ start + (1 + 2 * e) + i * each_dim → s1 + k1 ≤ s + k + (2 * n + 5) + more → b1 + more ≤ b
       → s2 ≤ s1 + 1 → k2 ≤ k1 + 2
-      → i < n → 6 + 2 * e + n * (2 * n + 7 + 2 * e) ≤ b1 → s2 + k2 + 1 ≤ start
+      → i < n → 6 + 2 * e + n * each_dim ≤ b1 → s2 + k2 + 1 ≤ start
   forced_costs s k b start i s1 k1 b1 more s2 k2 h l m o p before own =
-      let all : (i + 1) * (2 * n + 7 + 2 * e) ≤ n * (2 * n + 7 + 2 * e)
-      = mul-le-mul_right (2 * n + 7 + 2 * e) (omega (arith, before)) in
+      let all : (i + 1) * each_dim ≤ n * each_dim
+      = mul-le-mul_right each_dim (omega (arith, before)) in
       omega (arith, h, l, m, o, p, own, next_times i, all)
 
   -- the class ends it
-  pub class_costs : (s k b start i : ℕ) (s2 k2 : ℕ) → s + k + b ≤ start + (1 + 2 * e) + i * (2 * n + 7 + 2 * e)
+  pub class_costs : (s k b start i : ℕ) (s2 k2 : ℕ) → s + k + b ≤ start + (1 + 2 * e) + i * each_dim
       → s2 ≤ s + 1 → k2 ≤ k + 2
-      → i ≤ n → 6 + 2 * e + n * (2 * n + 7 + 2 * e) ≤ b → s2 + k2 + 1 ≤ start
+      → i ≤ n → 6 + 2 * e + n * each_dim ≤ b → s2 + k2 + 1 ≤ start
   class_costs s k b start i s2 k2 h o p before own =
-      let all : i * (2 * n + 7 + 2 * e) ≤ n * (2 * n + 7 + 2 * e) = mul-le-mul_right (2 * n + 7 + 2 * e) before in
+      let all : i * each_dim ≤ n * each_dim = mul-le-mul_right each_dim before in
       omega (arith, h, o, p, own, all)
 
 -- a label, and the child that it may lead to
