@@ -78,7 +78,7 @@ module _ (t : Cell ℕ) (f : ℕ → Option ℕ) (b : Tree ℕ) where
     pub copied_next : (xs : List LabelCopy) (k : ℕ) (z : LabelCopy) → k < length xs → HaveCopied t f (take k xs) b d
         → HaveCopied t f (get_or xs k z ∷ []) d e → HaveCopied t f (take (k + 1) xs) b e
     copied_next xs k z l one two
-        = rw (take_more xs k z l) (copied_then (take k xs) (get_or xs k z) one two)
+        = rw (take_more xs k z l) (copied_then _ _ one two)
 
     set_then : (xs : List TupleLabel) (x : TupleLabel) → HaveSet t f xs b d → HaveSet t f (x ∷ []) d e
         → HaveSet t f (xs ++ x ∷ []) b e
@@ -97,7 +97,7 @@ module _ (t : Cell ℕ) (f : ℕ → Option ℕ) (b : Tree ℕ) where
     pub set_next : (xs : List TupleLabel) (k : ℕ) (z : TupleLabel) → k < length xs → HaveSet t f (take k xs) b d
         → HaveSet t f (get_or xs k z ∷ []) d e → HaveSet t f (take (k + 1) xs) b e
     set_next xs k z l one two
-        = rw (take_more xs k z l) (set_then (take k xs) (get_or xs k z) one two)
+        = rw (take_more xs k z l) (set_then _ _ one two)
 
     ended_then : (amounts : List ℤ) (xs : List NodeKind) (x : NodeKind) → HaveEnded t amounts f xs b d
         → HaveEnded t amounts f (x ∷ []) d e → HaveEnded t amounts f (xs ++ x ∷ []) b e
@@ -117,7 +117,7 @@ module _ (t : Cell ℕ) (f : ℕ → Option ℕ) (b : Tree ℕ) where
         → HaveEnded t amounts f (take k xs) b d → HaveEnded t amounts f (get_or xs k z ∷ []) d e
         → HaveEnded t amounts f (take (k + 1) xs) b e
     ended_next amounts xs k z l one two
-        = rw (take_more xs k z l) (ended_then amounts (take k xs) (get_or xs k z) one two)
+        = rw (take_more xs k z l) (ended_then amounts _ _ one two)
 
 -- the whole plan
 module _ {t : Cell ℕ} {a : Arena} (c : Case t a) (plan : Plan) (parts : IsPlan t a plan)
@@ -125,7 +125,7 @@ module _ {t : Cell ℕ} {a : Arena} (c : Case t a) (plan : Plan) (parts : IsPlan
   pub every_number : IsSome (f 0) → ((s : PlannedNode) → Among s plan.planned_nodes.items → IsSome (f s.mask))
       → (q : Cell ℕ) → IsPrefix c q (depth q) → IsSome (f (mask q))
   every_number top planned_nodes q front
-      = elim (has q front (cell_prefix_none q (length t) (prefix_long c q (depth q) front))).spot [
+      = elim (has q front (cell_prefix_none q _ (prefix_long c q _ front))).spot [
         | inl flat ↦ rw (flat_mask q flat) top
         | inr s ↦ rw (← s.2) (planned_nodes s.0 s.1)
       ]

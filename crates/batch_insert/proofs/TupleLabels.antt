@@ -5,7 +5,7 @@ use Rattle.std.specs.Ordering.{eq_by_cmp}
 use Rattle.std.specs.Option.{option_map}
 use Rattle.std.specs.FinMap as map
 use Rattle.cube_defs.specs.Cell.{Cell, mask}
-use Rattle.cube_defs.specs.Tree.{Edge, Tree, cell_at}
+use Rattle.cube_defs.specs.Tree.{Edge, Tree}
 use Rattle.tree_laws.proofs.CallerLemmas.{some_same}
 use Rattle.tree_laws.specs.Labels.{target_after_row}
 use Rattle.qc_arena.specs.Edges.{put_edge, with_edge}
@@ -66,7 +66,7 @@ module _ {t : Cell ℕ} {a : Arena} (c : Case t a) where
     after = here ∙ ap (option_map (with_edge edge)) n.1
 
     edges_after : (record_at d k).edges ≡ put_edge edge (record_at b k).edges
-    edges_after = ap (λ (r : Known). r.edges) (record_known d k (with_edge edge n.0) after)
+    edges_after = ap (λ (r : Known). r.edges) (record_known d k _ after)
         ∙ ap (λ (r : Known). put_edge edge r.edges) (sym (record_known b k n.0 n.1))
 
     stays : (y : TupleLabel) → IsTupleLabelOf c y → IsSet t b f y → IsSet t d f y
@@ -100,14 +100,13 @@ module _ {t : Cell ℕ} {a : Arena} (c : Case t a) where
     pub owned : IsStage c d f × LabelsStay b d × IsSet t d f x
         × ((y : TupleLabel) → IsTupleLabelOf c y → IsSet t b f y → IsSet t d f y)
     owned = (
-      staged b d k n.0 (with_edge edge n.0) n.1 after refl others c f
-          (prefix_there c f b stage is.node x.dim n.0 is.front n.2) more stage
-          (put_sound c (cell_at b) edge n.0 (
+      staged b d k n.0 _ n.1 after refl others c f (prefix_there c f b stage is.node x.dim n.0 is.front n.2) more stage
+          (put_sound c _ edge n.0 (
             is.within,
             rw n.2 is.front,
             inr value,
           )),
-      labels b d k n.0 (with_edge edge n.0) n.1 after refl others more,
+      labels b d k n.0 _ n.1 after refl others more,
       (
         k,
         l,

@@ -15,7 +15,7 @@ set_kind-requires g c =
     let can = λ (x : NodeKind). CanEnd (length c.args.row.now.tuple.now) (length c.args.row.now.amounts.now)
     (numbered c.args.numbers.now) x in
     record {
-      repair = repair_then c.args.row.now.tuple.now c.args.arena.now c.ends.arena (numbered c.args.numbers.now)
+      repair = repair_then c.args.row.now.tuple.now c.args.arena.now c.ends.arena _
           c.ends.invariant.keeps c.requires.repair;
       ends = all_one can c.index-ends-k.result (rw c.index-ends-k.is (All-get_or can c.args.ends.now c.ends.k _ c.ends-test.true
           c.requires.ends));
@@ -31,7 +31,7 @@ ends-preserved g c = record {
   );
   keeps = keeps_then c.args.row.now.tuple.now c.args.arena.now c.ends.arena c.set_kind.new.arena c.ends.invariant.keeps
       c.set_kind.ensures.keeps;
-  done = ended_next c.args.row.now.tuple.now (numbered c.args.numbers.now) c.args.arena.now.now c.ends.arena.now
+  done = ended_next c.args.row.now.tuple.now _ c.args.arena.now.now c.ends.arena.now
       c.set_kind.new.arena.now c.args.row.now.amounts.now c.args.ends.now c.ends.k _ c.ends-test.true c.ends.invariant.done
       (rw c.index-ends-k.is at c.set_kind.ensures.done);
 }
@@ -40,7 +40,7 @@ pub ends-init : goal.ends-init
 ends-init g c = record {
   keeps = keeps_same c.args.row.now.tuple.now c.args.arena.now c.requires.repair.opened;
   done
-      = ended_none c.args.row.now.tuple.now (numbered c.args.numbers.now) c.args.arena.now.now c.args.row.now.amounts.now;
+      = ended_none c.args.row.now.tuple.now _ c.args.arena.now.now c.args.row.now.amounts.now;
   steps
       = omega arith;
 }

@@ -14,7 +14,7 @@ pub set_tuple_label-requires : goal.set_tuple_label-requires
 set_tuple_label-requires g c =
     let can = λ (x : TupleLabel). CanSet (length c.args.tuple.now) (numbered c.args.numbers.now) x in
     record {
-      repair = repair_then c.args.tuple.now c.args.arena.now c.tuple_labels.arena (numbered c.args.numbers.now)
+      repair = repair_then c.args.tuple.now c.args.arena.now c.tuple_labels.arena _
           c.tuple_labels.invariant.keeps c.requires.repair;
       within = all_one can _
           (All-get_or can c.args.tuple_labels.now c.tuple_labels.k _ c.tuple_labels-test.true c.requires.within);
@@ -40,7 +40,7 @@ tuple_labels-preserved g c = record {
   );
   keeps = keeps_then c.args.tuple.now c.args.arena.now c.tuple_labels.arena c.set_tuple_label.new.arena
       c.tuple_labels.invariant.keeps c.in-Ok.ensures.keeps;
-  done = set_next c.args.tuple.now (numbered c.args.numbers.now) c.args.arena.now.now c.tuple_labels.arena.now
+  done = set_next c.args.tuple.now _ c.args.arena.now.now c.tuple_labels.arena.now
       c.set_tuple_label.new.arena.now c.args.tuple_labels.now c.tuple_labels.k _ c.tuple_labels-test.true
       c.tuple_labels.invariant.done c.in-Ok.ensures.done;
 }
@@ -49,7 +49,7 @@ pub tuple_labels-init : goal.tuple_labels-init
 tuple_labels-init g c = record {
   keeps = keeps_same c.args.tuple.now c.args.arena.now c.requires.repair.opened;
   done
-      = set_none c.args.tuple.now (numbered c.args.numbers.now) c.args.arena.now.now;
+      = set_none c.args.tuple.now _ c.args.arena.now.now;
   steps = omega arith;
 }
 

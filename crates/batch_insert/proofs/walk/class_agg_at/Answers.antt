@@ -1,4 +1,3 @@
-use Rattle.std.proofs.Common.{length}
 use Rattle.batch_insert.proofs.Turns.{class_none, class_some}
 use Rattle.batch_insert.proofs.Reading.{class_there}
 use Rattle.batch_insert.proofs.walk.class_agg_at.Goals as goal
@@ -16,4 +15,4 @@ returns-in-Some-clause-sum g c
 
 pub returns-in-None-clause-sum : goal.returns-in-None-clause-sum
 returns-in-None-clause-sum g c
-    = λ t k p f h. class_none k p (length t) (rw c.in-None.is at h)
+    = λ t k p f h. class_none k p _ (rw c.in-None.is at h)
