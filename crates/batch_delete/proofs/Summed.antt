@@ -231,12 +231,15 @@ module _ (width : ℕ) (old : Tree ℕ) (tuple : Cell ℕ) (d : Deletion) (h : I
           (ap (λ j. Some j) same, ap (λ j. cell_prefix j c) (sym same) ∙ some_same e)
       go false k e = cc
 
+  abbrev prefix_of : ℕ → NodeCell → Option (Cell ℕ)
+  prefix_of n b = prefix_if n b.cell (last_any_of b.cell)
+
   prefixes_at : ℕ → List (Cell ℕ)
-  prefixes_at n = filter_map (λ (b : NodeCell). prefix_if n b.cell (last_any_of b.cell)) list
+  prefixes_at n = filter_map (prefix_of n) list
 
   prefixes_once : (n : ℕ) → EachOnce (prefixes_at n)
   unfolding prefixes_at
-  prefixes_once n = once_filtered (λ (b : NodeCell). prefix_if n b.cell (last_any_of b.cell)) list (λ x z y m k e f.
+  prefixes_once n = once_filtered (prefix_of n) list (λ x z y m k e f.
       let a = prefix_is n x.cell y (last_any_of x.cell) e in
       let b = prefix_is n z.cell y (last_any_of z.cell) f in
       let p = at_place x m in
@@ -252,52 +255,44 @@ module _ (width : ℕ) (old : Tree ℕ) (tuple : Cell ℕ) (d : Deletion) (h : I
   before n c None = 0
   before n c (Some i) = if nat_lt i n then labels_of old list (cell_prefix i c) else 0
 
-  here_sum : (n : ℕ) (bs : List NodeCell)
-      → sum_by (λ (b : NodeCell). here n b.cell (last_any_of b.cell)) bs ≡ sum_by (labels_of old list)
-      (filter_map (λ (b : NodeCell). prefix_if n b.cell (last_any_of b.cell)) bs)
+  abbrev here_at : ℕ → NodeCell → ℕ
+  here_at n b = here n b.cell (last_any_of b.cell)
+
+  abbrev before_at : ℕ → NodeCell → ℕ
+  before_at n b = before n b.cell (last_any_of b.cell)
+
+  here_sum : (n : ℕ) (bs : List NodeCell) → sum_by (here_at n) bs ≡ sum_by (labels_of old list)
+      (filter_map (prefix_of n) bs)
   here_sum n [] = refl
   here_sum n (b ∷ bs) = by (last_any_of b.cell) refl (here_sum n bs)
     where
-      tested : (i : ℕ) (s : Bool)
-          → sum_by (λ (b : NodeCell). here n b.cell (last_any_of b.cell)) bs ≡ sum_by (labels_of old list)
-          (filter_map (λ (b : NodeCell). prefix_if n b.cell (last_any_of b.cell)) bs)
+      tested : (i : ℕ) (s : Bool) → sum_by (here_at n) bs ≡ sum_by (labels_of old list) (filter_map (prefix_of n) bs)
           → (if s then labels_of old list (cell_prefix i b.cell) else 0)
-          + sum_by (λ (b : NodeCell). here n b.cell (last_any_of b.cell)) bs ≡ sum_by (labels_of old list)
-          (cons_option (if s then Some (cell_prefix i b.cell) else None)
-          (filter_map (λ (b : NodeCell). prefix_if n b.cell (last_any_of b.cell)) bs))
+          + sum_by (here_at n) bs ≡ sum_by (labels_of old list)
+          (cons_option (if s then Some (cell_prefix i b.cell) else None) (filter_map (prefix_of n) bs))
       tested i true more = ap (λ m. labels_of old list (cell_prefix i b.cell) + m) more
-          ∙ sym (sum_by-cons (labels_of old list) (cell_prefix i b.cell)
-          (filter_map (λ (b : NodeCell). prefix_if n b.cell (last_any_of b.cell)) bs))
-      tested i false more = zero_plus (sum_by (λ (b : NodeCell). here n b.cell (last_any_of b.cell)) bs) ∙ more
+          ∙ sym (sum_by-cons (labels_of old list) (cell_prefix i b.cell) (filter_map (prefix_of n) bs))
+      tested i false more = zero_plus (sum_by (here_at n) bs) ∙ more
 
-      one : (o : Option ℕ) → sum_by (λ (b : NodeCell). here n b.cell (last_any_of b.cell)) bs
-          ≡ sum_by (labels_of old list) (filter_map (λ (b : NodeCell). prefix_if n b.cell (last_any_of b.cell)) bs)
-          → here n b.cell o + sum_by (λ (b : NodeCell). here n b.cell (last_any_of b.cell)) bs
-          ≡ sum_by (labels_of old list)
-          (cons_option (prefix_if n b.cell o)
-          (filter_map (λ (b : NodeCell). prefix_if n b.cell (last_any_of b.cell)) bs))
-      one None more = zero_plus (sum_by (λ (b : NodeCell). here n b.cell (last_any_of b.cell)) bs) ∙ more
+      one : (o : Option ℕ) → sum_by (here_at n) bs ≡ sum_by (labels_of old list) (filter_map (prefix_of n) bs)
+          → here n b.cell o + sum_by (here_at n) bs ≡ sum_by (labels_of old list) (cons_option (prefix_if n b.cell o)
+          (filter_map (prefix_of n) bs))
+      one None more = zero_plus (sum_by (here_at n) bs) ∙ more
       one (Some i) more = tested i (nat_eq i n) more
 
-      by : (o : Option ℕ) → last_any_of b.cell ≡ o
-          → sum_by (λ (b : NodeCell). here n b.cell (last_any_of b.cell)) bs ≡ sum_by (labels_of old list)
-          (filter_map (λ (b : NodeCell). prefix_if n b.cell (last_any_of b.cell)) bs)
-          → sum_by (λ (b : NodeCell). here n b.cell (last_any_of b.cell)) (b ∷ bs) ≡ sum_by (labels_of old list)
-          (filter_map (λ (b : NodeCell). prefix_if n b.cell (last_any_of b.cell)) (b ∷ bs))
-      by o e more = sum_by-cons (λ (b : NodeCell). here n b.cell (last_any_of b.cell)) b bs
-          ∙ one (last_any_of b.cell) more
+      by : (o : Option ℕ) → last_any_of b.cell ≡ o → sum_by (here_at n) bs ≡ sum_by (labels_of old list)
+          (filter_map (prefix_of n) bs) → sum_by (here_at n) (b ∷ bs) ≡ sum_by (labels_of old list)
+          (filter_map (prefix_of n) (b ∷ bs))
+      by o e more = sum_by-cons (here_at n) b bs ∙ one (last_any_of b.cell) more
 
-  here_within : (n : ℕ) → sum_by (λ (b : NodeCell). here n b.cell (last_any_of b.cell)) list ≤ sum_by
-      (edge_many old) list
+  here_within : (n : ℕ) → sum_by (here_at n) list ≤ sum_by (edge_many old) list
   unfolding prefixes_at
   here_within n = let same = here_sum n list in
       let le = labels_within old list (prefixes_at n) (prefixes_once n) in omega arith
 
-  before_within : (n : ℕ)
-      → sum_by (λ (b : NodeCell). before n b.cell (last_any_of b.cell)) list ≤ n * sum_by (edge_many old) list
+  before_within : (n : ℕ) → sum_by (before_at n) list ≤ n * sum_by (edge_many old) list
   before_within zero =
-      let none = sum_zero (λ (b : NodeCell). before 0 b.cell (last_any_of b.cell)) list
-      (λ b. by b.cell (last_any_of b.cell)) in omega arith
+      let none = sum_zero (before_at 0) list (λ b. by b.cell (last_any_of b.cell)) in omega arith
     where
       by : (c : Cell ℕ) (o : Option ℕ) → before 0 c o ≡ 0
       by c None = refl
@@ -309,9 +304,7 @@ module _ (width : ℕ) (old : Tree ℕ) (tuple : Cell ℕ) (d : Deletion) (h : I
   before_within (suc n) =
       let more = before_within n in
       let now = here_within n in
-      let both = sum_two (λ (b : NodeCell). before n b.cell (last_any_of b.cell))
-      (λ (b : NodeCell). here n b.cell (last_any_of b.cell))
-      (λ (b : NodeCell). before (suc n) b.cell (last_any_of b.cell)) list (λ b. by b.cell (last_any_of b.cell)) in
+      let both = sum_two (before_at n) (here_at n) (before_at (suc n)) list (λ b. by b.cell (last_any_of b.cell)) in
       omega arith
     where
       tested : (i w : ℕ) (p q r : Bool) → nat_lt i (suc n) ≡ p → nat_lt i n ≡ q → nat_eq i n ≡ r
