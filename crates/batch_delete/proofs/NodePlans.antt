@@ -1,6 +1,6 @@
 -- The nodes of the list are planned for one after another, from the last one on.
 use Rattle.std.proofs.Common.{◌≡◌, ◌≢◌, ◌∙◌, ℕ, zero, suc, ◌+◌, ◌*◌, ◌<◌, ◌≤◌, Bool, true, false, Some, List, [], ◌∷◌, ap, arith, drop, inl}
-use Rattle.std.proofs.Common.{inr, length, ltb-false, ltb-true, nat_cmp, nat_eq, nat_lt, refl, slice_get, subst, sym, true≢false}
+use Rattle.std.proofs.Common.{inr, length, ltb-false, ltb-true, nat_cmp, nat_eq, nat_lt, refl, slice_get, sym, true≢false}
 use Rattle.std.proofs.lemmas.Bool.Decides.{eqb_tells}
 use Rattle.std.proofs.lemmas.List.Sums.{sum_by-cons}
 use Rattle.std.specs.Option.{option_map}
@@ -32,8 +32,7 @@ module _ (dims : ℕ) (tree : Tree ℕ) (d : Deletion) (h : IsTreeOf dims tree (
         (omega (arith, depth-le w, cell_wide dims tree (source_before d) h q w there, wide)) in
         let cell : f.1.cell ≡ w = some_same (sym (are.cells f.0 f.1 f.2) ∙ ap (cell_at tree) f.3 ∙ there) in
         let rest = (had f.0 f.1 (behind f.0 f.1 w f.2 cell above apart (nat_lt f.0 k) refl) f.2).after in
-        subst (λ q. IsRest d.measures (rows_after d) w (planned_rest_in plan q)) f.3
-        (subst (λ c. IsRest d.measures (rows_after d) c (planned_rest_in plan f.1.node.0)) cell rest)
+        rw (← f.3) (rw cell at rest)
       where
         behind : (j : ℕ) (c : NodeCell) (w : Cell ℕ) → slice_get list j ≡ Some c → c.cell ≡ w
             → leq nat_eq b.cell w ≡ true → leq nat_eq w b.cell ≡ false → (t : Bool) → nat_lt j k ≡ t → suc k ≤ j
@@ -65,24 +64,17 @@ module _ (dims : ℕ) (tree : Tree ℕ) (d : Deletion) (h : IsTreeOf dims tree (
       | inl i ↦
           let is : b ≡ c = some_same (sym at ∙ ap (slice_get list) (sym i.1) ∙ e) in
           record {
-            after = subst (λ (c : NodeCell). IsRest d.measures (rows_after d) c.cell (planned_rest_in new c.node.0)) is
-                (subst (IsRest d.measures (rows_after d) b.cell) (sym here) after);
+            after = rw (← is) (rw here after);
             heir =
-                subst (λ (c : NodeCell). IsNumberOfCell tree (heir_in new c.node.0)
-                (option_map (cell_prefix (depth c.cell)) (closure (eq_by_cmp nat_cmp) (rows_after d) c.cell))) is
-                (subst (λ o. IsNumberOfCell tree o
-                (option_map (cell_prefix (depth b.cell)) (closure (eq_by_cmp nat_cmp) (rows_after d) b.cell)))
-                (sym named) heir);
+                rw (← is) (rw named heir);
           }
       | inr i ↦
           let less : k < j = omega (arith, i.1) in
           let was = had j c less e in
           let apart = other_node j c less e in
           record {
-            after = subst (IsRest d.measures (rows_after d) c.cell) (sym (others c.node.0 apart)) was.after;
-            heir = subst (λ o. IsNumberOfCell tree o
-                (option_map (cell_prefix (depth c.cell)) (closure (eq_by_cmp nat_cmp) (rows_after d) c.cell)))
-                (sym (heirs c.node.0 apart)) was.heir;
+            after = rw (others c.node.0 apart) was.after;
+            heir = rw (heirs c.node.0 apart) was.heir;
           }
     ]
 

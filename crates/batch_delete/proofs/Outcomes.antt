@@ -104,8 +104,7 @@ module _ (width : ℕ) (tree : Tree ℕ) (tuple : Cell ℕ) (d : Deletion) (h : 
         (target_of_label (eq_by_cmp nat_cmp) (rows_after d) p x.dim x.value) (cell_of d.r.tuple) x.dim) =
         sym edge_leads.4 ∙ lead_own law d.xs d.r d.ys p x.dim x.value (covered p low) edge_leads.2 edge_leads.3 value in
         covered_low edge_leads.0
-        (subst (λ c. leq (eq_by_cmp nat_cmp) c (cell_of d.r.tuple) ≡ true) (sym (some_same same))
-        (by (target_of_label (eq_by_cmp nat_cmp) (rows_after d) p x.dim x.value)))
+        (rw (some_same same) (by (target_of_label (eq_by_cmp nat_cmp) (rows_after d) p x.dim x.value)))
       where
         by : (o : Option (Cell ℕ))
             → leq (eq_by_cmp nat_cmp) (target_after_row (eq_by_cmp nat_cmp) o (cell_of d.r.tuple) x.dim)
@@ -134,8 +133,8 @@ module _ (width : ℕ) (tree : Tree ℕ) (tuple : Cell ℕ) (d : Deletion) (h : 
     pub place : (q : ℕ) (c : Cell ℕ) → cell_at tree q ≡ Some c → leq nat_eq c tuple ≡ true → (k : ℕ) × (b : NodeCell)
         × (slice_get list k ≡ Some b) × (b.node.0 ≡ q) × (b.cell ≡ c)
     place q c at low =
-        let x = below.all q c at low (subst (λ n. depth c ≤ n) (cell_wide width tree (source_before d) h q c at
-        ∙ sym long) (depth-le c)) in
+        let x = below.all q c at low (rw (← (cell_wide width tree (source_before d) h q c at
+        ∙ sym long)) (depth-le c)) in
         (x.0, x.1, x.2, x.3, some_same (sym (below.cells x.0 x.1 x.2) ∙ ap (cell_at tree) x.3 ∙ at))
 
     -- what is planned for it
@@ -144,8 +143,7 @@ module _ (width : ℕ) (tree : Tree ℕ) (tuple : Cell ℕ) (d : Deletion) (h : 
     fate q c at low =
         let x = place q c at low in
         let p = planned x.0 x.1 (zero_le x.0) x.2 in
-        subst (λ n. IsPlanned d tree plan (record { node = record { 0 = n }; cell = c })) x.3
-        (subst (λ y. IsPlanned d tree plan (record { node = record { 0 = x.1.node.0 }; cell = y })) x.4
+        rw (← x.3) (subst (λ y. IsPlanned d tree plan (record { node = record { 0 = x.1.node.0 }; cell = y })) x.4
         (record { after = p.after; heir = p.heir }))
 
     module _ (q : ℕ) (c : Cell ℕ) (at : cell_at tree q ≡ Some c) (low : leq nat_eq c tuple ≡ true) where
@@ -191,7 +189,7 @@ module _ (width : ℕ) (tree : Tree ℕ) (tuple : Cell ℕ) (d : Deletion) (h : 
           go (Some rest) e = (
             rest,
             stays_if k ∙ e,
-            subst (IsRest d.measures (rows_after d) c) e (fate q c at low).after,
+            rw (← e) (fate q c at low).after,
           )
 
       -- and what stays is a node afterwards
@@ -256,7 +254,7 @@ module _ (width : ℕ) (tree : Tree ℕ) (tuple : Cell ℕ) (d : Deletion) (h : 
         → Stays list plan t
     stays_node t c at node k b e same =
         let cell : b.cell ≡ c = some_same (sym (below.cells k b e) ∙ ap (cell_at tree) same ∙ at) in
-        let r = staying_rest t c at (subst (λ y. leq nat_eq y tuple ≡ true) cell (below.below k b e)) node in
+        let r = staying_rest t c at (rw (← cell) (below.below k b e)) node in
         ap is_some r.1
 
     -- where an edge of a node that stays leads afterwards
@@ -286,13 +284,13 @@ module _ (width : ℕ) (tree : Tree ℕ) (tuple : Cell ℕ) (d : Deletion) (h : 
             )
         by_own false own l =
             let same : x.target ≡ t = some_same l in (
-              subst (λ n. IsSome (fin.get tree n)) same (there tree x.target to.0 to.1),
+              rw (← same) (there tree x.target to.0 to.1),
               (λ i a f g.
                   let cell : a.cell ≡ to.0
                   = some_same (sym (below.cells i a f) ∙ ap (cell_at tree) (g ∙ sym same) ∙ to.1) in
                   absurd (true≢false (sym
                   (low_own b.node.0 b.cell (below.cells k b e) low x m
-                  (subst (λ y. leq nat_eq y tuple ≡ true) cell (below.below i a f))) ∙ own))),
+                  (rw (← cell) (below.below i a f))) ∙ own))),
             )
 
         by_left : (s : Bool) → (if s then (if is_value (get_or tuple x.dim None) x.value then heir_in plan x.target
@@ -313,11 +311,11 @@ module _ (width : ℕ) (tree : Tree ℕ) (tuple : Cell ℕ) (d : Deletion) (h : 
           let node = staying_node b.node.0 b.cell (below.cells k b e) (below.below k b e) rest s in
           let r = staying_rest b.node.0 b.cell (below.cells k b e) (below.below k b e) node in
           wide_after b.cell rest.shared
-          (sym (subst (λ y. IsRest d.measures (rows_after d) b.cell (Some y)) (some_same (sym r.1 ∙ s)) r.2).cells);
+          (sym (rw (some_same (sym r.1 ∙ s)) at r.2).cells);
       dims = λ k j b x e at.
           let to = edge_leads b.node.0 b.cell (below.cells k b e) (below.below k b e) x
           (get_among (record_at tree b.node.0).edges j x at) in
-          subst (λ n. x.dim < n) (cell_wide width tree (source_before d) h b.node.0 b.cell (below.cells k b e)) to.3;
+          rw (← (cell_wide width tree (source_before d) h b.node.0 b.cell (below.cells k b e))) to.3;
       behind = λ k j b x e at.
           (edge_leads b.node.0 b.cell (below.cells k b e) (below.below k b e) x
           (get_among (record_at tree b.node.0).edges j x at)).2;

@@ -2,7 +2,7 @@
 -- to heirs.
 use Rattle.cube_laws.proofs.CallerLemmas.{none_some}
 use Rattle.std.proofs.Common.{◌≡◌, ◌∙◌, ℕ, zero, suc, ◌<◌, Bool, true, false, not, ◌&&◌, Option, Some, None, List, [], ◌∷◌, filter_map}
-use Rattle.std.proofs.Common.{length, slice_get, nat_eq, refl, sym, ap, ap₂, subst, arith, eqb-true}
+use Rattle.std.proofs.Common.{length, slice_get, nat_eq, refl, sym, ap, ap₂, arith, eqb-true}
 use Rattle.std.proofs.lemmas.Bool.{and_from, and_parts, cond-true, cond-false}
 use Rattle.std.proofs.lemmas.Bool.Decides.{nat_tests}
 use Rattle.std.specs.List.{cons_option, list_all}
@@ -30,8 +30,7 @@ mixed_kept f zero xs h = refl
 mixed_kept f (suc j) [] h = refl
 mixed_kept f (suc j) (x ∷ xs) h =
     ap (λ (l : List (Edge ℕ ℕ)). x ∷ l) (mixed_kept f j xs (λ k y l e. h (suc k) y (omega arith) e))
-    ∙ sym (ap (λ (o : Option ℕ). cons_option
-    (option_map (λ t. let e : Edge ℕ ℕ = record { dim = x.dim; value = x.value; target = t } in e) o)
+    ∙ sym (ap (λ (o : Option ℕ). cons_option (option_map (edge_with x) o)
     (filter_map (redirected_edge f) xs)) (h 0 x (omega arith) refl))
 
 pub all_kept : (f : Edge ℕ ℕ → Option ℕ) (n : Known)
@@ -45,8 +44,7 @@ pub led_alike : (f g : Edge ℕ ℕ → Option ℕ) (xs : List (Edge ℕ ℕ))
     → ((k : ℕ) (x : Edge ℕ ℕ) → slice_get xs k ≡ Some x → f x ≡ g x) → first_redirected f 0 xs ≡ first_redirected g 0 xs
 led_alike f g [] h = refl
 led_alike f g (x ∷ xs) h
-    = ap₂ (λ (o : Option ℕ) (l : List (Edge ℕ ℕ)). cons_option
-    (option_map (λ t. let e : Edge ℕ ℕ = record { dim = x.dim; value = x.value; target = t } in e) o) l) (h 0 x refl)
+    = ap₂ (λ (o : Option ℕ) (l : List (Edge ℕ ℕ)). cons_option (option_map (edge_with x) o) l) (h 0 x refl)
     (led_alike f g xs (λ k y e. h (suc k) y e))
 
 -- what is left was there
@@ -58,12 +56,11 @@ left_was next (y ∷ xs) k x e = go (is_left next y.dim y.value) refl k e (left_
   where
     go : (b : Bool) → is_left next y.dim y.value ≡ b → (k : ℕ)
         → slice_get (cons_option
-        (option_map (λ t. let e : Edge ℕ ℕ = record { dim = y.dim; value = y.value; target = t } in
-        e) (if b then Some y.target else None)) (first_redirected (left_to next) 0 xs)) k ≡ Some x
+        (option_map (edge_with y) (if b then Some y.target else None)) (first_redirected (left_to next) 0 xs)) k ≡ Some x
         → ((k : ℕ) (x : Edge ℕ ℕ) → slice_get (first_redirected (left_to next) 0 xs) k ≡ Some x → (j : ℕ)
         × (slice_get xs j ≡ Some x) × (is_left next x.dim x.value ≡ true)) → (j : ℕ)
         × (slice_get (y ∷ xs) j ≡ Some x) × (is_left next x.dim x.value ≡ true)
-    go true s zero e more = (0, e, subst (λ (z : Edge ℕ ℕ). is_left next z.dim z.value ≡ true) (some_same e) s)
+    go true s zero e more = (0, e, rw (← (some_same e)) s)
     go true s (suc k) e more = let m = more k x e in (suc m.0, m.1, m.2)
     go false s k e more = let m = more k x e in (suc m.0, m.1, m.2)
 
@@ -81,16 +78,13 @@ left_rises f (y ∷ xs) r = let p = and_parts (list_all (label_lt y) xs) (rises 
         by (f x) p.0 (behind y xs p.1)
       where
         by : (o : Option ℕ) → label_lt y x ≡ true → list_all (label_lt y) (first_redirected f 0 xs) ≡ true
-            → list_all (label_lt y)
-            (cons_option (option_map (λ t. let e : Edge ℕ ℕ = record { dim = x.dim; value = x.value; target = t } in
-            e) o) (first_redirected f 0 xs)) ≡ true
+            → list_all (label_lt y) (cons_option (option_map (edge_with x) o) (first_redirected f 0 xs)) ≡ true
         by None l more = more
         by (Some t) l more = and_from _ _ l more
 
     go : (o : Option ℕ) → list_all (label_lt y) (first_redirected f 0 xs) ≡ true
         → rises (first_redirected f 0 xs) ≡ true
-        → rises (cons_option (option_map (λ t. let e : Edge ℕ ℕ = record { dim = y.dim; value = y.value; target = t } in
-        e) o) (first_redirected f 0 xs)) ≡ true
+        → rises (cons_option (option_map (edge_with y) o) (first_redirected f 0 xs)) ≡ true
     go None all more = more
     go (Some t) all more = and_from _ _ all more
 
@@ -104,13 +98,10 @@ led_after tuple heirs next (x ∷ xs) = go (is_left next x.dim x.value) (led_aft
     go : (b : Bool) → first_redirected (heir_target tuple heirs) 0 (first_redirected (left_to next) 0 xs)
         ≡ first_redirected (new_target tuple heirs next) 0 xs
         → first_redirected (heir_target tuple heirs) 0
-        (cons_option (option_map (λ t. let e : Edge ℕ ℕ = record { dim = x.dim; value = x.value; target = t } in
-        e) (if b then Some x.target else None)) (first_redirected (left_to next) 0 xs))
-        ≡ cons_option (option_map (λ t. let e : Edge ℕ ℕ = record { dim = x.dim; value = x.value; target = t } in
-        e) (if b then heir_target tuple heirs x else None)) (first_redirected (new_target tuple heirs next) 0 xs)
-    go true more = ap (cons_option
-        (option_map (λ t. let e : Edge ℕ ℕ = record { dim = x.dim; value = x.value; target = t } in
-        e) (heir_target tuple heirs x))) more
+        (cons_option (option_map (edge_with x) (if b then Some x.target else None)) (first_redirected (left_to next) 0 xs))
+        ≡ cons_option (option_map (edge_with x) (if b then heir_target tuple heirs x else None))
+        (first_redirected (new_target tuple heirs next) 0 xs)
+    go true more = ap (cons_option (option_map (edge_with x) (heir_target tuple heirs x))) more
     go false more = more
 
 -- one label is led elsewhere
@@ -126,179 +117,150 @@ module _ (f g : Edge ℕ ℕ → Option ℕ) (i v : ℕ) (others : (y : Edge ℕ
   gs xs = first_redirected g 0 xs
 
   abbrev cons : Edge ℕ ℕ → Option ℕ → List (Edge ℕ ℕ) → List (Edge ℕ ℕ)
-  cons y o l = cons_option
-      (option_map (λ t. let e : Edge ℕ ℕ = record { dim = y.dim; value = y.value; target = t } in e) o) l
+  cons y o l = cons_option (option_map (edge_with y) o) l
+
+  -- the edge of the label that leads to a node
+  abbrev with_label : ℕ → Edge ℕ ℕ
+  with_label t = record { dim = i; value = v; target = t }
 
   -- without the label nothing changes
-  pub not_there : (ys : List (Edge ℕ ℕ)) → target_at nat_eq i v (first_redirected f 0 ys) ≡ None
-      → first_redirected f 0 ys ≡ first_redirected g 0 ys
+  pub not_there : (ys : List (Edge ℕ ℕ)) → target_at nat_eq i v (fs ys) ≡ None → fs ys ≡ gs ys
   not_there [] h = refl
   not_there (y ∷ ys) h = go (label y) refl (f y) refl h (not_there ys)
     where
-      go : (b : Bool) → (nat_eq y.dim i && nat_eq y.value v) ≡ b → (o : Option ℕ) → f y ≡ o
-          → target_at nat_eq i v (cons y o (first_redirected f 0 ys)) ≡ None
-          → (target_at nat_eq i v (first_redirected f 0 ys) ≡ None → first_redirected f 0 ys ≡ first_redirected g 0 ys)
-          → cons y (f y) (first_redirected f 0 ys) ≡ cons y (g y) (first_redirected g 0 ys)
+      go : (b : Bool) → label y ≡ b → (o : Option ℕ) → f y ≡ o → target_at nat_eq i v (cons y o (fs ys)) ≡ None
+          → (target_at nat_eq i v (fs ys) ≡ None → fs ys ≡ gs ys) → cons y (f y) (fs ys) ≡ cons y (g y) (gs ys)
       go true s None e h more = absurd (none_some (sym e ∙ own y s))
       go true s (Some t) e h more
-          = absurd (none_some (sym
-          (sym (cond-true (label y) (Some t) (target_at nat_eq i v (first_redirected f 0 ys)) s) ∙ h)))
+          = absurd (none_some (sym (sym (cond-true (label y) (Some t) (target_at nat_eq i v (fs ys)) s) ∙ h)))
       go false s None e h more = ap₂ (cons y) (others y s) (more h)
       go false s (Some t) e h more
-          = ap₂ (cons y) (others y s)
-          (more (sym (cond-false (label y) (Some t) (target_at nat_eq i v (first_redirected f 0 ys)) s) ∙ h))
+          = ap₂ (cons y) (others y s) (more (sym (cond-false (label y) (Some t) (target_at nat_eq i v (fs ys)) s) ∙ h))
 
-  after_apart : (y x : Edge ℕ ℕ) → (nat_eq y.dim i && nat_eq y.value v) ≡ true → label_lt y x ≡ true
-      → (nat_eq x.dim i && nat_eq x.value v) ≡ false
+  after_apart : (y x : Edge ℕ ℕ) → label y ≡ true → label_lt y x ≡ true → label x ≡ false
   after_apart y x a h = grind (arith, nat_tests)
 
   -- after the label nothing changes
-  behind : (y : Edge ℕ ℕ) → (nat_eq y.dim i && nat_eq y.value v) ≡ true → (ys : List (Edge ℕ ℕ))
-      → list_all (label_lt y) ys ≡ true → first_redirected f 0 ys ≡ first_redirected g 0 ys
+  behind : (y : Edge ℕ ℕ) → label y ≡ true → (ys : List (Edge ℕ ℕ)) → list_all (label_lt y) ys ≡ true → fs ys ≡ gs ys
   behind y s [] h = refl
   behind y s (x ∷ ys) h = let p = and_parts (label_lt y x) (list_all (label_lt y) ys) h in
       ap₂ (cons x) (others x (after_apart y x s p.0)) (behind y s ys p.1)
 
-  before_label : (y x : Edge ℕ ℕ) (t : ℕ) → (nat_eq x.dim i && nat_eq x.value v) ≡ true → label_lt y x ≡ true
-      → label_lt y (record { dim = i; value = v; target = t }) ≡ true
+  before_label : (y x : Edge ℕ ℕ) (t : ℕ) → label x ≡ true → label_lt y x ≡ true → label_lt y (with_label t) ≡ true
   before_label y x t a h = grind (arith, nat_tests)
 
   -- what stands before all stands before the label
   before : (y : Edge ℕ ℕ) (t s : ℕ) (ys : List (Edge ℕ ℕ)) → list_all (label_lt y) ys ≡ true
-      → target_at nat_eq i v (first_redirected f 0 ys) ≡ Some t
-      → label_lt y (record { dim = i; value = v; target = s }) ≡ true
+      → target_at nat_eq i v (fs ys) ≡ Some t → label_lt y (with_label s) ≡ true
   before y t s [] h e = cc
   before y t s (x ∷ ys) h e = let p = and_parts (label_lt y x) (list_all (label_lt y) ys) h in
       go (label x) refl (f x) e p.0 (before y t s ys p.1)
     where
-      go : (b : Bool) → (nat_eq x.dim i && nat_eq x.value v) ≡ b → (o : Option ℕ)
-          → target_at nat_eq i v (cons x o (first_redirected f 0 ys)) ≡ Some t → label_lt y x ≡ true
-          → (target_at nat_eq i v (first_redirected f 0 ys) ≡ Some t
-          → label_lt y (record { dim = i; value = v; target = s }) ≡ true)
-          → label_lt y (record { dim = i; value = v; target = s }) ≡ true
+      go : (b : Bool) → label x ≡ b → (o : Option ℕ)
+          → target_at nat_eq i v (cons x o (fs ys)) ≡ Some t → label_lt y x ≡ true → (target_at nat_eq i v (fs ys) ≡ Some t
+          → label_lt y (with_label s) ≡ true) → label_lt y (with_label s) ≡ true
       go true a o e l more = before_label y x s a l
       go false a None e l more = more e
       go false a (Some r) e l more
-          = more (sym (cond-false (label x) (Some r) (target_at nat_eq i v (first_redirected f 0 ys)) a) ∙ e)
+          = more (sym (cond-false (label x) (Some r) (target_at nat_eq i v (fs ys)) a) ∙ e)
 
   -- the edge with the label led to a heir, or dropped
   abbrev pub list_led : Option ℕ → ℕ → List (Edge ℕ ℕ) → List (Edge ℕ ℕ)
   list_led None t xs = drop_label i v xs
-  list_led (Some s) t xs = if nat_eq s t then xs else put_edge (record { dim = i; value = v; target = s }) xs
+  list_led (Some s) t xs = if nat_eq s t then xs else put_edge (with_label s) xs
 
-  at_label : (y : Edge ℕ ℕ) → (nat_eq y.dim i && nat_eq y.value v) ≡ true → (s : ℕ)
-      → (label_lt y (record { dim = i; value = v; target = s }) ≡ false)
-      × (same_label y (record { dim = i; value = v; target = s }) ≡ true)
+  at_label : (y : Edge ℕ ℕ) → label y ≡ true → (s : ℕ) → (label_lt y (with_label s) ≡ false)
+      × (same_label y (with_label s) ≡ true)
   at_label y a s = (grind (arith, nat_tests), a)
 
-  none_behind : (y : Edge ℕ ℕ) → (nat_eq y.dim i && nat_eq y.value v) ≡ true → (l : List (Edge ℕ ℕ))
-      → list_all (label_lt y) l ≡ true
-      → list_all (λ x. not (same_label x (record { dim = i; value = v; target = 0 }))) l ≡ true
+  none_behind : (y : Edge ℕ ℕ) → label y ≡ true → (l : List (Edge ℕ ℕ)) → list_all (label_lt y) l ≡ true
+      → list_all (λ x. not (same_label x (with_label 0))) l ≡ true
   none_behind y a [] h = refl
   none_behind y a (x ∷ l) h = let p = and_parts (label_lt y x) (list_all (label_lt y) l) h in
       and_from _ _ (ap not (after_apart y x a p.0)) (none_behind y a l p.1)
 
-  led_label : (y : Edge ℕ ℕ) → (nat_eq y.dim i && nat_eq y.value v) ≡ true → (t : ℕ)
-      → (let e : Edge ℕ ℕ = record { dim = i; value = v; target = t } in e) ≡ edge_with y t
+  led_label : (y : Edge ℕ ℕ) → label y ≡ true → (t : ℕ) → with_label t ≡ edge_with y t
   led_label y a t =
       let p = and_parts (nat_eq y.dim i) (nat_eq y.value v) a in
       let d = eqb-true y.dim i p.0 in
       let w = eqb-true y.value v p.1 in
       λ j. record { dim = sym d j; value = sym w j; target = t }
 
-  pub there_led : (h : ℕ → Option ℕ) → ((y : Edge ℕ ℕ) → (nat_eq y.dim i && nat_eq y.value v) ≡ true → g y ≡ h y.target)
-      → (ys : List (Edge ℕ ℕ)) → rises ys ≡ true → (t : ℕ) → target_at nat_eq i v (first_redirected f 0 ys) ≡ Some t
-      → list_led (h t) t (first_redirected f 0 ys) ≡ first_redirected g 0 ys
+  pub there_led : (h : ℕ → Option ℕ) → ((y : Edge ℕ ℕ) → label y ≡ true → g y ≡ h y.target)
+      → (ys : List (Edge ℕ ℕ)) → rises ys ≡ true → (t : ℕ) → target_at nat_eq i v (fs ys) ≡ Some t
+      → list_led (h t) t (fs ys) ≡ gs ys
   there_led h heir [] r t e = cc
   there_led h heir (y ∷ ys) r t e = let p = and_parts (list_all (label_lt y) ys) (rises ys) r in
       go (label y) refl (f y) refl e p.0 (there_led h heir ys p.1 t)
     where
-      here : (nat_eq y.dim i && nat_eq y.value v) ≡ true → list_all (label_lt y) ys ≡ true → y.target ≡ t
-          → list_led (h t) t (y ∷ first_redirected f 0 ys) ≡ cons y (g y) (first_redirected g 0 ys)
+      here : label y ≡ true → list_all (label_lt y) ys ≡ true → y.target ≡ t
+          → list_led (h t) t (y ∷ fs ys) ≡ cons y (g y) (gs ys)
       here a l same = by (h t) refl
         where
-          rest : first_redirected f 0 ys ≡ first_redirected g 0 ys
+          rest : fs ys ≡ gs ys
           rest = behind y a ys l
 
           led : g y ≡ h t
           led = heir y a ∙ ap h same
 
-          to : (b : Bool) (s : ℕ) → nat_eq s t ≡ b
-              → (if b then y ∷ first_redirected f 0 ys
-              else put_edge (record { dim = i; value = v; target = s }) (y ∷ first_redirected f 0 ys))
-              ≡ cons y (Some s) (first_redirected g 0 ys)
+          to : (b : Bool) (s : ℕ) → nat_eq s t ≡ b → (if b then y ∷ fs ys else put_edge (with_label s) (y ∷ fs ys))
+              ≡ cons y (Some s) (gs ys)
           to true s q = ap₂ (λ (z : Edge ℕ ℕ) (l : List (Edge ℕ ℕ)). z ∷ l)
-              (ap (λ m. let e : Edge ℕ ℕ = record { dim = y.dim; value = y.value; target = m } in
-              e) (same ∙ sym (eqb-true s t q))) rest
+              (ap (edge_with y) (same ∙ sym (eqb-true s t q))) rest
           to false s q =
               let k = at_label y a s in
               cond-false _ _ _ k.0 ∙ cond-true _ _ _ k.1
-              ∙ ap₂ (λ (z : Edge ℕ ℕ) (l : List (Edge ℕ ℕ)). z ∷ l) (labelled s) rest
-            where
-              labelled : (s : ℕ) → (let e : Edge ℕ ℕ = record { dim = i; value = v; target = s } in
-                  e) ≡ (let e : Edge ℕ ℕ = record { dim = y.dim; value = y.value; target = s } in e)
-              labelled s = led_label y a s
+              ∙ ap₂ (λ (z : Edge ℕ ℕ) (l : List (Edge ℕ ℕ)). z ∷ l) (led_label y a s) rest
 
-          by : (o : Option ℕ) → h t ≡ o
-              → list_led o t (y ∷ first_redirected f 0 ys) ≡ cons y (g y) (first_redirected g 0 ys)
+          by : (o : Option ℕ) → h t ≡ o → list_led o t (y ∷ fs ys) ≡ cons y (g y) (gs ys)
           by None q =
-              cond-false (not (label y)) (y ∷ drop_label i v (first_redirected f 0 ys))
-              (drop_label i v (first_redirected f 0 ys)) (ap not a)
-              ∙ drop_none (record { dim = i; value = v; target = 0 }) (first_redirected f 0 ys)
-              (none_behind y a (first_redirected f 0 ys) (rises_after ys l))
-              ∙ rest ∙ sym (ap (λ o. cons y o (first_redirected g 0 ys)) (led ∙ q))
+              cond-false (not (label y)) (y ∷ drop_label i v (fs ys)) (drop_label i v (fs ys)) (ap not a)
+              ∙ drop_none (with_label 0) (fs ys) (none_behind y a (fs ys) (rises_after ys l))
+              ∙ rest ∙ sym (ap (λ o. cons y o (gs ys)) (led ∙ q))
             where
-              rises_after : (xs : List (Edge ℕ ℕ)) → list_all (label_lt y) xs ≡ true
-                  → list_all (label_lt y) (first_redirected f 0 xs) ≡ true
+              rises_after : (xs : List (Edge ℕ ℕ)) → list_all (label_lt y) xs ≡ true → list_all (label_lt y) (fs xs) ≡ true
               rises_after [] h = refl
               rises_after (x ∷ xs) h = let p = and_parts (label_lt y x) (list_all (label_lt y) xs) h in
                   step (f x) p.0 (rises_after xs p.1)
                 where
-                  step : (o : Option ℕ) → label_lt y x ≡ true → list_all (label_lt y) (first_redirected f 0 xs) ≡ true
-                      → list_all (label_lt y) (cons x o (first_redirected f 0 xs)) ≡ true
+                  step : (o : Option ℕ) → label_lt y x ≡ true → list_all (label_lt y) (fs xs) ≡ true
+                      → list_all (label_lt y) (cons x o (fs xs)) ≡ true
                   step None l more = more
                   step (Some t) l more = and_from _ _ l more
-          by (Some s) q = to (nat_eq s t) s refl ∙ sym (ap (λ o. cons y o (first_redirected g 0 ys)) (led ∙ q))
+          by (Some s) q = to (nat_eq s t) s refl ∙ sym (ap (λ o. cons y o (gs ys)) (led ∙ q))
 
-      past : (r : ℕ) → (nat_eq y.dim i && nat_eq y.value v) ≡ false → list_all (label_lt y) ys ≡ true
-          → target_at nat_eq i v (first_redirected f 0 ys) ≡ Some t
-          → list_led (h t) t (edge_with y r ∷ first_redirected f 0 ys) ≡ edge_with y r
-          ∷ list_led (h t) t (first_redirected f 0 ys)
+      past : (r : ℕ) → label y ≡ false → list_all (label_lt y) ys ≡ true → target_at nat_eq i v (fs ys) ≡ Some t
+          → list_led (h t) t (edge_with y r ∷ fs ys) ≡ edge_with y r
+          ∷ list_led (h t) t (fs ys)
       past r a l found = by (h t)
         where
-          to : (s : ℕ) (b : Bool)
-              → (if b then edge_with y r ∷ first_redirected f 0 ys
-              else put_edge (record { dim = i; value = v; target = s }) (edge_with y r ∷ first_redirected f 0 ys))
-              ≡ edge_with y r ∷ (if b then first_redirected f 0 ys
-              else put_edge (record { dim = i; value = v; target = s }) (first_redirected f 0 ys))
+          to : (s : ℕ) (b : Bool) → (if b then edge_with y r ∷ fs ys else put_edge (with_label s) (edge_with y r ∷ fs ys))
+              ≡ edge_with y r ∷ (if b then fs ys
+              else put_edge (with_label s) (fs ys))
           to s true = refl
           to s false = cond-true _ _ _ (before y t s ys l found)
 
-          by : (o : Option ℕ) → list_led o t (edge_with y r ∷ first_redirected f 0 ys) ≡ edge_with y r
-              ∷ list_led o t (first_redirected f 0 ys)
-          by None = cond-true (not (label y)) (edge_with y r ∷ drop_label i v (first_redirected f 0 ys))
-              (drop_label i v (first_redirected f 0 ys)) (ap not a)
+          by : (o : Option ℕ) → list_led o t (edge_with y r ∷ fs ys) ≡ edge_with y r ∷ list_led o t (fs ys)
+          by None = cond-true (not (label y)) (edge_with y r ∷ drop_label i v (fs ys)) (drop_label i v (fs ys)) (ap not a)
           by (Some s) = to s (nat_eq s t)
 
-      go : (b : Bool) → (nat_eq y.dim i && nat_eq y.value v) ≡ b → (o : Option ℕ) → f y ≡ o
-          → target_at nat_eq i v (cons y o (first_redirected f 0 ys)) ≡ Some t → list_all (label_lt y) ys ≡ true
-          → (target_at nat_eq i v (first_redirected f 0 ys) ≡ Some t
-          → list_led (h t) t (first_redirected f 0 ys) ≡ first_redirected g 0 ys)
-          → list_led (h t) t (cons y (f y) (first_redirected f 0 ys)) ≡ cons y (g y) (first_redirected g 0 ys)
+      go : (b : Bool) → label y ≡ b → (o : Option ℕ) → f y ≡ o
+          → target_at nat_eq i v (cons y o (fs ys)) ≡ Some t → list_all (label_lt y) ys ≡ true
+          → (target_at nat_eq i v (fs ys) ≡ Some t → list_led (h t) t (fs ys) ≡ gs ys)
+          → list_led (h t) t (cons y (f y) (fs ys)) ≡ cons y (g y) (gs ys)
       go true a None q e l more = absurd (none_some (sym q ∙ own y a))
       go true a (Some r) q e l more =
           let target : y.target ≡ r = some_same (sym (own y a) ∙ q) in
-          let found : r ≡ t = some_same
-          (sym (cond-true (label y) (Some r) (target_at nat_eq i v (first_redirected f 0 ys)) a) ∙ e) in
-          ap (λ o. list_led (h t) t (cons y o (first_redirected f 0 ys))) (own y a) ∙ here a l (target ∙ found)
-      go false a None q e l more = ap (λ o. list_led (h t) t (cons y o (first_redirected f 0 ys))) q ∙ more e
-          ∙ sym (ap (λ o. cons y o (first_redirected g 0 ys)) (sym (others y a) ∙ q))
+          let found : r ≡ t = some_same (sym (cond-true (label y) (Some r) (target_at nat_eq i v (fs ys)) a) ∙ e) in
+          ap (λ o. list_led (h t) t (cons y o (fs ys))) (own y a) ∙ here a l (target ∙ found)
+      go false a None q e l more = ap (λ o. list_led (h t) t (cons y o (fs ys))) q ∙ more e
+          ∙ sym (ap (λ o. cons y o (gs ys)) (sym (others y a) ∙ q))
       go false a (Some r) q e l more = step
         where
-          found : target_at nat_eq i v (first_redirected f 0 ys) ≡ Some t
-          found = sym (cond-false (label y) (Some r) (target_at nat_eq i v (first_redirected f 0 ys)) a) ∙ e
+          found : target_at nat_eq i v (fs ys) ≡ Some t
+          found = sym (cond-false (label y) (Some r) (target_at nat_eq i v (fs ys)) a) ∙ e
 
-          step : list_led (h t) t (cons y (f y) (first_redirected f 0 ys)) ≡ cons y (g y) (first_redirected g 0 ys)
-          step = ap (λ o. list_led (h t) t (cons y o (first_redirected f 0 ys))) q ∙ past r a l found
+          step : list_led (h t) t (cons y (f y) (fs ys)) ≡ cons y (g y) (gs ys)
+          step = ap (λ o. list_led (h t) t (cons y o (fs ys))) q ∙ past r a l found
               ∙ ap (λ (l : List (Edge ℕ ℕ)). edge_with y r ∷ l) (more found)
-              ∙ sym (ap (λ o. cons y o (first_redirected g 0 ys)) (sym (others y a) ∙ q))
+              ∙ sym (ap (λ o. cons y o (gs ys)) (sym (others y a) ∙ q))

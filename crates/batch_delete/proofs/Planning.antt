@@ -1,6 +1,6 @@
 -- What becomes of a class that generalizes the tuple: its prefix, its labels, and the other rows of the tuple.
 use Rattle.std.proofs.Common.{◌≡◌, ◌≢◌, ◌∙◌, ℕ, zero, suc, ◌≤◌, true, inl, inr, Option, Some, None, List, [], ◌∷◌, ap, ap₂, arith, length}
-use Rattle.std.proofs.Common.{nat_cmp, nat_eq, refl, slice_get, subst, sym}
+use Rattle.std.proofs.Common.{nat_cmp, nat_eq, refl, slice_get, sym}
 use Rattle.std.proofs.lemmas.Bool.{and_parts, cond-true}
 use Rattle.std.proofs.lemmas.List.Sums.{sum_by-cons}
 use Rattle.std.specs.Option.{option_map}
@@ -102,7 +102,7 @@ module _ (dims : ℕ) (tree : Tree ℕ) (d : Deletion) (h : IsTreeOf dims tree (
     (wide : length tuple ≡ dims) (row : tuple ≡ cell_of d.r.tuple) (u : Cell ℕ) (long : length u ≡ dims)
     (below : covers (eq_by_cmp nat_cmp) u d.r ≡ true) where
   pub low : leq nat_eq u tuple ≡ true
-  low = subst (λ eq. leq eq u tuple ≡ true) one_test (subst (λ t. leq (eq_by_cmp nat_cmp) u t ≡ true) (sym row) below)
+  low = rw (← one_test) (rw row below)
 
   pub prefix_there : closure_in (source_before d) u ≡ Some u → (i : ℕ) → (q : ℕ)
       × (cell_at tree q ≡ Some (cell_prefix i u))
@@ -149,6 +149,6 @@ module _ (dims : ℕ) (tree : Tree ℕ) (d : Deletion) (h : IsTreeOf dims tree (
       (all-insert (λ row. length row.tuple ≡ dims) d.xs d.r d.ys h.wide).0 w.1 in
       let top : w.0 ≡ cell_of d.r.tuple
       = full_top d.r.tuple w.0
-      (subst (λ c. leq (eq_by_cmp nat_cmp) c w.0 ≡ true) full (leq-closure law (rows_after d) u w.0 w.1)) (wl
+      (rw (← full) (leq-closure law (rows_after d) u w.0 w.1)) (wl
       ∙ sym wide ∙ ap length row ∙ length-cell_of d.r.tuple) in
       record { cells = ap (λ c. Some c) (own ∙ full ∙ sym top) ∙ sym w.1; aggs = at }

@@ -1,6 +1,6 @@
 -- What is planned for a node, from what is planned for nodes with more values.
 use Rattle.std.proofs.Common.{◌≡◌, ◌∙◌, ℕ, ◌<◌, ◌≤◌, Bool, true, false, Option, Some, None, List, ap, arith, get_or, length, ltb-false}
-use Rattle.std.proofs.Common.{ltb-true, nat_cmp, nat_eq, nat_lt, refl, slice_get, subst, sym}
+use Rattle.std.proofs.Common.{ltb-true, nat_cmp, nat_eq, nat_lt, refl, slice_get, sym}
 use Rattle.std.proofs.lemmas.Bool.{false_from_ne_true}
 use Rattle.std.specs.Cmp.{nat_cmp_total}
 use Rattle.std.specs.FinMap as fin
@@ -110,11 +110,10 @@ module _ (dims : ℕ) (tree : Tree ℕ) (d : Deletion) (h : IsTreeOf dims tree (
 
   module _ (tuple : Cell ℕ) (row : tuple ≡ cell_of d.r.tuple) (low : leq nat_eq p tuple ≡ true) where
     pub covered : covers (eq_by_cmp nat_cmp) p d.r ≡ true
-    covered = subst (λ t. leq (eq_by_cmp nat_cmp) p t ≡ true) row
-        (subst (λ eq. leq eq p tuple ≡ true) (sym one_test) low)
+    covered = rw (← row) (rw one_test low)
 
     by_numbers : (c w : Cell ℕ) → leq (eq_by_cmp nat_cmp) c w ≡ true → leq nat_eq c w ≡ true
-    by_numbers c w e = subst (λ eq. leq eq c w ≡ true) one_test e
+    by_numbers c w e = rw (← one_test) e
 
     -- a greater cell with a value where p has none doesn't generalize p
     apart : (w : Cell ℕ) (i v : ℕ) → slice_get p i ≡ Some None → leq (eq_by_cmp nat_cmp) (one_value i v) w ≡ true
@@ -122,7 +121,7 @@ module _ (dims : ℕ) (tree : Tree ℕ) (d : Deletion) (h : IsTreeOf dims tree (
     apart w i v any one = false_from_ne_true _ (λ e.
         let there : slice_get p i ≡ Some (Some v)
         = (one_value-leq law i v p).0
-        (leq_trans law (one_value i v) w p one (subst (λ eq. leq eq w p ≡ true) (sym one_test) e)) in
+        (leq_trans law (one_value i v) w p one (rw one_test e)) in
         let bad : Some (Some v) ≡ Some None = sym there ∙ any in cc)
 
     module _ (plan : ℕ → Option Rest)
@@ -140,8 +139,7 @@ module _ (dims : ℕ) (tree : Tree ℕ) (d : Deletion) (h : IsTreeOf dims tree (
           = below_row law d.xs d.r d.ys p shut.0 covered shut.1 in
           let down : leq nat_eq child tuple ≡ true
           = by_numbers child tuple
-          (subst (λ t. leq (eq_by_cmp nat_cmp) child t ≡ true) (sym row)
-          (leq_trans law child shut.0 (cell_of d.r.tuple) up under)) in
+          (rw row (leq_trans law child shut.0 (cell_of d.r.tuple) up under)) in
           let above : leq nat_eq p child ≡ true = by_numbers p child (leq-with_value law p next c.0 deep) in
           let one = (one_value-leq law next c.0 child).1 (with_value-there p next c.0 c.3) in
           same_rest d p child shut.0 (plan f.target) shut.1 c.2
@@ -155,7 +153,7 @@ module _ (dims : ℕ) (tree : Tree ℕ) (d : Deletion) (h : IsTreeOf dims tree (
           let covers : covers (eq_by_cmp nat_cmp) w d.r ≡ true
           = step_above law d.xs d.r d.ys p i v any covered (has_same law i v d.r has) w closes in
           let down : leq nat_eq w tuple ≡ true
-          = by_numbers w tuple (subst (λ t. leq (eq_by_cmp nat_cmp) w t ≡ true) (sym row) covers) in
+          = by_numbers w tuple (rw row covers) in
           let up : leq (eq_by_cmp nat_cmp) (with_value p i v) w ≡ true
           = leq-closure law (rows_before d) (with_value p i v) w closes in
           let both = parts p w i v any up in
@@ -201,16 +199,15 @@ pub own_prefix : (d : Deletion) (c shared front : Cell ℕ) → closure (eq_by_c
     → front ≡ cell_prefix (depth c) shared → leq nat_eq front c ≡ true → cell_prefix (depth c) shared ≡ c
 own_prefix d c shared front closes is low =
     let up : leq (eq_by_cmp nat_cmp) c (cell_prefix (depth c) shared) ≡ true =
-    subst (λ x. leq (eq_by_cmp nat_cmp) x (cell_prefix (depth c) shared) ≡ true)
-    (cell_prefix-beyond (depth c) c (omega arith))
-    (cell_prefix_mono law (depth c) c shared (leq-closure law (rows_after d) c shared closes)) in
-    let down : leq (eq_by_cmp nat_cmp) front c ≡ true = subst (λ eq. leq eq front c ≡ true) (sym one_test) low in
-    leq_antisymm law (cell_prefix (depth c) shared) c (subst (λ x. leq (eq_by_cmp nat_cmp) x c ≡ true) is down) up
+    rw (cell_prefix-beyond (depth c) c (omega arith)) at (cell_prefix_mono law (depth c) c shared
+    (leq-closure law (rows_after d) c shared closes)) in
+    let down : leq (eq_by_cmp nat_cmp) front c ≡ true = rw one_test low in
+    leq_antisymm law (cell_prefix (depth c) shared) c (rw (← is) down) up
 
 -- so is the prefix of what the rows share, where they share no more than the cell
 pub whole_prefix : (d : Deletion) (c shared : Cell ℕ) → closure (eq_by_cmp nat_cmp) (rows_after d) c ≡ Some shared
     → leq nat_eq shared c ≡ true → cell_prefix (depth c) shared ≡ c
 whole_prefix d c shared closes low =
-    let down : leq (eq_by_cmp nat_cmp) shared c ≡ true = subst (λ eq. leq eq shared c ≡ true) (sym one_test) low in
+    let down : leq (eq_by_cmp nat_cmp) shared c ≡ true = rw one_test low in
     ap (cell_prefix (depth c)) (leq_antisymm law shared c down (leq-closure law (rows_after d) c shared closes))
     ∙ cell_prefix-beyond (depth c) c (omega arith)

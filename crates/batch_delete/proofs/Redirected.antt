@@ -89,34 +89,31 @@ rises_led f (x ∷ xs) h = go (rises_led f xs h.1) (redirected_edge f x) refl
 
 -- how far the labels reach
 module _ (p w : Cell ℕ) (same : length p ≡ length w) where
-  pub left_within : (i v : ℕ) → is_left (next_entry (depth p) w) i v ≡ true → i < length p
-      → i ≤ next_value nat_cmp (depth p) w
-  left_within i v h l = go (get_or w (next_value nat_cmp (depth p) w) None) refl h
+  -- the dimension of the forced child
+  abbrev next : ℕ
+  next = next_value nat_cmp (depth p) w
+
+  pub left_within : (i v : ℕ) → is_left (next_entry (depth p) w) i v ≡ true → i < length p → i ≤ next
+  left_within i v h l = go (get_or w next None) refl h
     where
       e : ℕ
-      e = next_value nat_cmp (depth p) w
+      e = next
 
-      reach : (b c : Bool) → nat_lt i (next_value nat_cmp (depth p) w) ≡ b
-          → nat_eq i (next_value nat_cmp (depth p) w) ≡ c → (v' : ℕ) → (b || (c && nat_eq v v')) ≡ true
-          → i ≤ next_value nat_cmp (depth p) w
-      reach true c s t v' k = let less = ltb-true i (next_value nat_cmp (depth p) w) s in omega (arith, less)
-      reach false true s t v' k = let is = eqb-true i (next_value nat_cmp (depth p) w) t in omega (arith, is)
+      reach : (b c : Bool) → nat_lt i next ≡ b → nat_eq i next ≡ c → (v' : ℕ) → (b || (c && nat_eq v v')) ≡ true → i ≤ next
+      reach true c s t v' k = let less = ltb-true i next s in omega (arith, less)
+      reach false true s t v' k = let is = eqb-true i next t in omega (arith, is)
       reach false false s t v' k = absurd (true≢false (sym k))
 
-      beyond : (a : Bool) → nat_lt (next_value nat_cmp (depth p) w) (length w) ≡ a
-          → get_or w (next_value nat_cmp (depth p) w) None ≡ None → i ≤ next_value nat_cmp (depth p) w
+      beyond : (a : Bool) → nat_lt next (length w) ≡ a → get_or w next None ≡ None → i ≤ next
       beyond true a n =
-          let x = next-entry nat_cmp (depth p) w (ltb-true (next_value nat_cmp (depth p) w) (length w) a) in
-          absurd (none_some (sym n ∙ entry_is w (next_value nat_cmp (depth p) w) (Some x.0) x.1))
-      beyond false a n = let past = ltb-false (next_value nat_cmp (depth p) w) (length w) a in
+          let x = next-entry nat_cmp (depth p) w (ltb-true next (length w) a) in
+          absurd (none_some (sym n ∙ entry_is w next (Some x.0) x.1))
+      beyond false a n = let past = ltb-false next (length w) a in
           omega (arith, past, l, same)
 
-      go : (o : Option ℕ) → get_or w (next_value nat_cmp (depth p) w) None ≡ o
-          → is_left (option_map (λ v. (next_value nat_cmp (depth p) w, v)) o) i v ≡ true
-          → i ≤ next_value nat_cmp (depth p) w
-      go None n k = beyond (nat_lt (next_value nat_cmp (depth p) w) (length w)) refl n
-      go (Some v') n k = reach (nat_lt i (next_value nat_cmp (depth p) w)) (nat_eq i (next_value nat_cmp (depth p) w))
-          refl refl v' k
+      go : (o : Option ℕ) → get_or w next None ≡ o → is_left (option_map (λ v. (next, v)) o) i v ≡ true → i ≤ next
+      go None n k = beyond (nat_lt next (length w)) refl n
+      go (Some v') n k = reach (nat_lt i next) (nat_eq i next) refl refl v' k
 
 module _ (width : ℕ) (tree : Tree ℕ) (tuple : Cell ℕ) (d : Deletion) (h : IsTreeOf width tree (source_before d))
     (long : length tuple ≡ width) (is : tuple ≡ cell_of d.r.tuple)
@@ -139,8 +136,12 @@ module _ (width : ℕ) (tree : Tree ℕ) (tuple : Cell ℕ) (d : Deletion) (h : 
   leads : Edge ℕ ℕ → Option ℕ
   leads x = new_target tuple (heir_in plan) (next_entry (depth p) w) x
 
-  label : Edge ℕ (Cell ℕ) → Type 0
-  label y = IsLabel nat_cmp (rows_after d) p (next_value nat_cmp (depth p) w) y
+  -- the dimension of the prefix's forced child
+  abbrev forced_dim : ℕ
+  forced_dim = next_value nat_cmp (depth p) w
+
+  abbrev label : Edge ℕ (Cell ℕ) → Type 0
+  label y = IsLabel nat_cmp (rows_after d) p forced_dim y
 
   is_own : (x : Edge ℕ ℕ) → is_value (get_or tuple x.dim None) x.value ≡ true → slice_get d.r.tuple x.dim ≡ Some x.value
   is_own x own = value_is d.r.tuple x.dim x.value (ap (λ c. is_value (get_or c x.dim None) x.value) (sym is) ∙ own)
@@ -149,7 +150,7 @@ module _ (width : ℕ) (tree : Tree ℕ) (tuple : Cell ℕ) (d : Deletion) (h : 
   pub led_sound : (x : Edge ℕ ℕ) → Among x (record_at tree q).edges → (t : ℕ)
       → new_target tuple (heir_in plan) (next_entry (depth p) w) x ≡ Some t
       → (c : Cell ℕ) × (name t ≡ Some c)
-      × IsLabel nat_cmp (rows_after d) p (next_value nat_cmp (depth p) w)
+      × label
       (record { dim = x.dim; value = x.value; target = c })
   led_sound x m t led = by_left (is_left (next_entry (depth p) w) x.dim x.value) refl led
     where
@@ -157,14 +158,14 @@ module _ (width : ℕ) (tree : Tree ℕ) (tuple : Cell ℕ) (d : Deletion) (h : 
           × (target_of_label (eq_by_cmp nat_cmp) (rows_before d) p x.dim x.value ≡ Some c)
       to = edge_leads width tree tuple d h long is q p at low x m
 
-      within : is_left (next_entry (depth p) w) x.dim x.value ≡ true → IsWithin p (next_value nat_cmp (depth p) w) x.dim
+      within : is_left (next_entry (depth p) w) x.dim x.value ≡ true → IsWithin p forced_dim x.dim
       within l = record { behind = to.2; before = left_within p w same_long x.dim x.value l to.3; within = to.3 }
 
       by_own : is_left (next_entry (depth p) w) x.dim x.value ≡ true → (s : Bool)
           → is_value (get_or tuple x.dim None) x.value ≡ s
           → (if s then heir_in plan x.target else Some x.target) ≡ Some t
           → (c : Cell ℕ) × (name t ≡ Some c)
-          × IsLabel nat_cmp (rows_after d) p (next_value nat_cmp (depth p) w)
+          × label
           (record { dim = x.dim; value = x.value; target = c })
       by_own l true own e =
           let down = own_low width tree tuple d h long is q p at low x m own in
@@ -196,38 +197,33 @@ module _ (width : ℕ) (tree : Tree ℕ) (tuple : Cell ℕ) (d : Deletion) (h : 
           → (if s then (if is_value (get_or tuple x.dim None) x.value then heir_in plan x.target else Some x.target)
           else None) ≡ Some t
           → (c : Cell ℕ) × (name t ≡ Some c)
-          × IsLabel nat_cmp (rows_after d) p (next_value nat_cmp (depth p) w)
+          × label
           (record { dim = x.dim; value = x.value; target = c })
       by_left true l e = by_own l (is_value (get_or tuple x.dim None) x.value) refl e
       by_left false l e = cc
 
-  label_left : (y : Edge ℕ (Cell ℕ)) → IsLabel nat_cmp (rows_after d) p (next_value nat_cmp (depth p) w) y
-      → is_left (next_entry (depth p) w) y.dim y.value ≡ true
-  label_left y l = go (get_or w (next_value nat_cmp (depth p) w) None) refl
+  label_left : (y : Edge ℕ (Cell ℕ)) → label y → is_left (next_entry (depth p) w) y.dim y.value ≡ true
+  label_left y l = go (get_or w forced_dim None) refl
     where
-      less : (b : Bool) → nat_lt y.dim (next_value nat_cmp (depth p) w) ≡ b → (v' : ℕ)
-          → get_or w (next_value nat_cmp (depth p) w) None ≡ Some v'
-          → (b || (nat_eq y.dim (next_value nat_cmp (depth p) w) && nat_eq y.value v')) ≡ true
+      less : (b : Bool) → nat_lt y.dim forced_dim ≡ b → (v' : ℕ) → get_or w forced_dim None ≡ Some v'
+          → (b || (nat_eq y.dim forced_dim && nat_eq y.value v')) ≡ true
       less true s v' e = refl
       less false s v' e =
-          let past = ltb-false y.dim (next_value nat_cmp (depth p) w) s in
-          let dims : y.dim ≡ next_value nat_cmp (depth p) w = omega (arith, past, l.place.before) in
+          let past = ltb-false y.dim forced_dim s in
+          let dims : y.dim ≡ forced_dim = omega (arith, past, l.place.before) in
           let from = led_from law (closure (eq_by_cmp nat_cmp) (rows_after d) (with_value p y.dim y.value)) y.dim
           y.target l.leads in
           let value : y.value ≡ v' =
           only_forced nat_cmp_total fin.nat_cmp-IsAntisymmetric (rows_after d) p w from.0 y.dim v' y.value closed
-          l.place.behind l.place.within (ap (slice_get w) dims
-          ∙ entry_some w (next_value nat_cmp (depth p) w) v' e) from.1 in
-          ap₂ (λ a b. a && b) (eq-eqb y.dim (next_value nat_cmp (depth p) w) dims) (eq-eqb y.value v' value)
+          l.place.behind l.place.within (ap (slice_get w) dims ∙ entry_some w forced_dim v' e) from.1 in
+          ap₂ (λ a b. a && b) (eq-eqb y.dim forced_dim dims) (eq-eqb y.value v' value)
 
-      go : (o : Option ℕ) → get_or w (next_value nat_cmp (depth p) w) None ≡ o
-          → is_left (option_map (λ v. (next_value nat_cmp (depth p) w, v)) o) y.dim y.value ≡ true
+      go : (o : Option ℕ) → get_or w forced_dim None ≡ o → is_left (option_map (λ v. (forced_dim, v)) o) y.dim y.value ≡ true
       go None e = refl
-      go (Some v') e = less (nat_lt y.dim (next_value nat_cmp (depth p) w)) refl v' e
+      go (Some v') e = less (nat_lt y.dim forced_dim) refl v' e
 
   -- each label that leads somewhere has an edge that is left
-  pub led_whole : (y : Edge ℕ (Cell ℕ)) → IsLabel nat_cmp (rows_after d) p (next_value nat_cmp (depth p) w) y
-      → (x : Edge ℕ ℕ) × (t : ℕ) × Among x (record_at tree q).edges
+  pub led_whole : (y : Edge ℕ (Cell ℕ)) → label y → (x : Edge ℕ ℕ) × (t : ℕ) × Among x (record_at tree q).edges
       × (new_target tuple (heir_in plan) (next_entry (depth p) w) x ≡ Some t) × (x.dim ≡ y.dim)
       × (x.value ≡ y.value)
   led_whole y l = go (target_of_label (eq_by_cmp nat_cmp) (rows_before d) p y.dim y.value) refl
@@ -285,13 +281,11 @@ module _ (width : ℕ) (tree : Tree ℕ) (tuple : Cell ℕ) (d : Deletion) (h : 
             x.3,
           )
 
-  pub labels_are : (y : Edge ℕ (Cell ℕ)) → Among y (record_of nat_cmp d.measures (rows_after d) p w).edges
-      → IsLabel nat_cmp (rows_after d) p (next_value nat_cmp (depth p) w) y
+  pub labels_are : (y : Edge ℕ (Cell ℕ)) → Among y (record_of nat_cmp d.measures (rows_after d) p w).edges → label y
   labels_are y m = (edges-are nat_cmp_total fin.nat_cmp-IsAntisymmetric d.measures (rows_after d) p w closed front y).0
       m
 
-  are_labels : (y : Edge ℕ (Cell ℕ)) → IsLabel nat_cmp (rows_after d) p (next_value nat_cmp (depth p) w) y
-      → Among y (record_of nat_cmp d.measures (rows_after d) p w).edges
+  are_labels : (y : Edge ℕ (Cell ℕ)) → label y → Among y (record_of nat_cmp d.measures (rows_after d) p w).edges
   are_labels y l = (edges-are nat_cmp_total fin.nat_cmp-IsAntisymmetric d.measures (rows_after d) p w closed front y).1
       l
 
@@ -300,19 +294,16 @@ module _ (width : ℕ) (tree : Tree ℕ) (tuple : Cell ℕ) (d : Deletion) (h : 
       (record_at tree q).edges
 
   -- an edge that is left
-  pub edge_sound : (x : Edge ℕ ℕ) → Among x left_edges → (c : Cell ℕ) × (name x.target ≡ Some c)
-      × IsLabel nat_cmp (rows_after d) p (next_value nat_cmp (depth p) w)
+  pub edge_sound : (x : Edge ℕ ℕ) → Among x left_edges → (c : Cell ℕ) × (name x.target ≡ Some c) × label
       (record { dim = x.dim; value = x.value; target = c })
   edge_sound x m =
       let o = (among_filter_map (redirected_edge (new_target tuple (heir_in plan) (next_entry (depth p) w))) x
       (record_at tree q).edges).0 m in
       let a = led_label (new_target tuple (heir_in plan) (next_entry (depth p) w)) o.0 x o.2 in
       let s = led_sound o.0 o.1 a.0 a.1 in
-      subst (λ (z : Edge ℕ ℕ). (c : Cell ℕ) × (name z.target ≡ Some c)
-      × IsLabel nat_cmp (rows_after d) p (next_value nat_cmp (depth p) w)
-      (record { dim = z.dim; value = z.value; target = c })) (sym a.2) s
+      rw a.2 s
 
-  pub edge_whole : (y : Edge ℕ (Cell ℕ)) → IsLabel nat_cmp (rows_after d) p (next_value nat_cmp (depth p) w) y
+  pub edge_whole : (y : Edge ℕ (Cell ℕ)) → label y
       → (x : Edge ℕ ℕ) × Among x left_edges × (x.dim ≡ y.dim) × (x.value ≡ y.value) × (name x.target ≡ Some y.target)
   edge_whole y l =
       let o = led_whole y l in
@@ -347,8 +338,7 @@ module _ (width : ℕ) (tree : Tree ℕ) (tuple : Cell ℕ) (d : Deletion) (h : 
       (rises_led (new_target tuple (heir_in plan) (next_entry (depth p) w)) (record_at tree q).edges old_rises))
       (rises_renamed (λ c. Some c) (record_of nat_cmp d.measures (rows_after d) p w).edges
       (edges_rise nat_cmp_total fin.nat_cmp-IsAntisymmetric d.measures (rows_after d) p w
-      (next_value nat_cmp (depth p) w)))
-      (λ z m.
+      forced_dim)) (λ z m.
       let x = among_map (renamed_edge name) z left_edges m in
       let s = edge_sound x.0 x.1 in
       let y : Edge ℕ (Cell ℕ) = record { dim = x.0.dim; value = x.0.value; target = s.0 } in

@@ -95,7 +95,7 @@ forced_among measures rows p u x e =
     (among_append x (flat_map (edges_in nat_cmp rows p)
     (range_with_len (depth p) (next_value nat_cmp (depth p) u - depth p)))
     (as_list nat_cmp (forced_child nat_cmp p u (next_value nat_cmp (depth p) u)))).1
-    (inr (subst (λ o. Among x (as_list nat_cmp o)) (sym e) (inl refl)))
+    (inr (rw e (inl refl)))
 
 -- the node without its last value
 parent_node : (rows : List _) (p c : Cell ℕ) → is_node (eq_by_cmp nat_cmp) rows p ≡ true
@@ -243,8 +243,7 @@ module _ (width : ℕ) (old new : Tree ℕ) (tuple : Cell ℕ) (d : Deletion) (h
           (λ c. is_node (eq_by_cmp nat_cmp) (rows_after d) c ≡ true) still n m
           (some_same (old_is ∙ ap (option_map (renamed (λ c. Some c))) k))
           (λ c f. parent_node (rows_after d) n.cell c node (sym (ap (λ (x : Node ℕ (Cell ℕ)). x.parent) form) ∙ f))
-          (λ x f. to x (subst (λ (y : Node ℕ (Cell ℕ)). Among x y.edges) (sym form)
-          (forced_among d.measures (rows_after d) n.cell u.0 x
+          (λ x f. to x (rw form (forced_among d.measures (rows_after d) n.cell u.0 x
           (sym (ap (λ (y : Node ℕ (Cell ℕ)). y.forced) form) ∙ f))))
           (λ y f. to y f))
           ∙ ap (option_map (renamed (λ c. Some c))) (sym k)
@@ -415,8 +414,7 @@ module _ (width : ℕ) (old new : Tree ℕ) (tuple : Cell ℕ) (d : Deletion) (h
               → Some (renamed (cell_at new) m) ≡ option_map (renamed (λ c. Some c))
               (node_of nat_cmp d.measures (rows_after d) m.cell)
           target_after_row x same y
-              = subst (λ z. Some (renamed (cell_at new) z) ≡ option_map (renamed (λ c. Some c))
-              (node_of nat_cmp d.measures (rows_after d) z.cell)) same y
+              = rw (← same) y
 
           by : Now q n → Some (renamed (cell_at new) m) ≡ option_map (renamed (λ c. Some c))
               (node_of nat_cmp d.measures (rows_after d) m.cell)

@@ -1,6 +1,6 @@
 -- Edges are mended one after another, the last one first.
 use Rattle.std.proofs.Common.{◌≡◌, ◌≢◌, ◌∙◌, get_or, inl, inr, ℕ, zero, suc, ◌<◌, ◌≤◌, Bool, true, false, not, Option, Some, None, List, []}
-use Rattle.std.proofs.Common.{◌∷◌, filter_map, length, slice_get, nat_eq, refl, sym, ap, subst, arith, eqb-true, is_some, true≢false}
+use Rattle.std.proofs.Common.{◌∷◌, filter_map, length, slice_get, nat_eq, refl, sym, ap, arith, eqb-true, is_some, true≢false}
 use Rattle.std.proofs.lemmas.Bool.{and_from, and_parts, cond-true, cond-false}
 use Rattle.std.proofs.lemmas.Bool.Decides.{nat_tests, eqb_tells}
 use Rattle.std.specs.List.{cons_option, list_all}
@@ -77,7 +77,7 @@ module _ (f : Edge ℕ ℕ → Option ℕ) where
       ∙ cond-false (not (same_label x x)) (x ∷ drop_label x.dim x.value (filter_map (redirected_edge f) xs))
       (drop_label x.dim x.value (filter_map (redirected_edge f) xs)) (ap not (own_label x))
       ∙ drop_none x (filter_map (redirected_edge f) xs)
-      (led_behind x xs (subst (λ (z : Edge ℕ ℕ). list_all (label_lt z) xs ≡ true) is p.0))
+      (led_behind x xs (rw (← is) p.0))
       ∙ sym (ap (λ (o : Option ℕ). cons_option
       (option_map (λ t. let e : Edge ℕ ℕ = record { dim = y.dim; value = y.value; target = t } in e) o)
       (filter_map (redirected_edge f) xs)) (ap f is ∙ e))
@@ -146,8 +146,8 @@ module _ (f : Edge ℕ ℕ → Option ℕ) where
 pub there_still : (old now : Tree ℕ) (k : ℕ) → ((q : ℕ) → q ≢ k → map.get now q ≡ map.get old q)
     → IsSome (map.get now k) → (t : ℕ) → IsSome (map.get old t) → IsSome (map.get now t)
 there_still old now k others here t h = elim (eqb_tells t k) [
-  | inl e ↦ subst (λ n. IsSome (map.get now n)) (sym e.1) here
-  | inr e ↦ subst (λ (o : Option Known). IsSome o) (sym (others t e.1)) h
+  | inl e ↦ rw e.1 here
+  | inr e ↦ rw (others t e.1) h
 ]
 
 -- a node that was changed can be changed again

@@ -84,9 +84,8 @@ module _ (dims : ℕ) (tree : Tree ℕ) (d : Deletion) (h : IsTreeOf dims tree (
       by : (b : Bool) → nat_eq x.dim i ≡ b → o ≡ (if b then Some x.target else None) → come d tree u i x (suc i) o
       by true same f =
           let here : x.dim ≡ i = eqb-true x.dim i same in
-          let on = label_goes_on dims tree (source_before d) h front u x (subst (λ n. n < length u) (sym here) l)
-          (subst (λ n. cell_at tree front ≡ Some (cell_prefix n u)) (sym here) at) among in
-          subst (come d tree u i x (suc i)) (sym f) (subst (λ n. IsNumberOfCell tree (Some x.target)
-          (closure_prefix (eq_by_cmp nat_cmp) (rows_before d) (with_value u n x.value) (suc n))) here on)
-      by false apart f = subst (come d tree u i x (suc i)) (sym f) (λ same.
+          let on = label_goes_on dims tree (source_before d) h front u x (rw here l)
+          (rw here at) among in
+          subst (come d tree u i x (suc i)) (sym f) (rw (← here) on)
+      by false apart f = rw f (λ same.
           absurd (true≢false (sym (eq-eqb x.dim i same) ∙ apart)))

@@ -3,7 +3,7 @@ use Rattle.std.proofs.Common.{◌≡◌, ◌∙◌, ℕ, Bool, true, false, cond
 use Rattle.std.proofs.Common.{subst, sym, true≢false}
 use Rattle.std.proofs.lemmas.Bool.{cond-false, cond-true}
 use Rattle.std.specs.Ordering.{eq_by_cmp}
-use Rattle.cube_defs.specs.Cell.{Cell, leq, meet, with_value}
+use Rattle.cube_defs.specs.Cell.{Cell, meet, with_value}
 use Rattle.cube_defs.specs.Rows.{closure, covers}
 use Rattle.cube_defs.specs.Tree.{Tree}
 use Rattle.cube_laws.specs.Total.{join_cells, total}
@@ -46,7 +46,7 @@ module _ (d : Deletion) (u : Cell ℕ) (i v : ℕ) (any : slice_get u i ≡ Some
       → SharesAtMost d u (meet (eq_by_cmp nat_cmp) c s)
   both_above c s a b =
       let same : b.0 ≡ a.0 = some_same (sym b.1 ∙ a.1) in
-      (a.0, a.1, meet_great law a.0 c s a.2 (subst (λ x. leq (eq_by_cmp nat_cmp) x s ≡ true) same b.2))
+      (a.0, a.1, meet_great law a.0 c s a.2 (rw (← same) b.2))
 
   pub total_above : (vs : List ℕ) (s : Cell ℕ) → total (join_cells (eq_by_cmp nat_cmp)) None part vs ≡ Some s
       → SharesAtMost d u s
@@ -61,7 +61,7 @@ module _ (d : Deletion) (u : Cell ℕ) (i v : ℕ) (any : slice_get u i ≡ Some
       go more None a p b e = more s (b ∙ e)
       go more (Some c) a None b e = subst (SharesAtMost d u) (some_same e) (part_above x c a)
       go more (Some c) a (Some q) b e
-          = subst (SharesAtMost d u) (some_same e) (both_above c q (part_above x c a) (more q b))
+          = rw (← (some_same e)) (both_above c q (part_above x c a) (more q b))
 
   pub rest_above : (vs : List ℕ) (rest : Rest) → IsTotal d u i v w vs (Some rest) → SharesAtMost d u rest.shared
   rest_above vs rest is = total_above vs rest.shared (sym is.cells)

@@ -77,7 +77,7 @@ once_filtered {X = X} {Y = Y} f (x ∷ xs) apart h
     go more None e = more
     go more (Some y) e = (
       λ m. let z : (z : X) × Among z xs × (f z ≡ Some y) = (among_filter_map f y xs).0 m in
-          h.0 (subst (λ w. Among w xs) (sym (apart x z.0 y (inl refl) (inr z.1) e z.2)) z.1),
+          h.0 (rw (apart x z.0 y (inl refl) (inr z.1) e z.2) z.1),
       more,
     )
 
@@ -104,7 +104,7 @@ one_cell c e (p ∷ ps) h = go (cell_eq nat_eq c p) refl (one_cell c e ps h.1)
     go true s more =
         let all = sum_by-cons (λ p. if cell_eq nat_eq c p then e else 0) p ps in
         let first : (if cell_eq nat_eq c p then e else 0) ≡ e = cond-true _ _ _ s in
-        let rest = none ps (λ m. h.0 (subst (λ x. Among x ps) (cell_eq-exact nat_equality c p s) m)) in
+        let rest = none ps (λ m. h.0 (rw (← (cell_eq-exact nat_equality c p s)) m)) in
         omega arith
     go false s more =
         let all = sum_by-cons (λ p. if cell_eq nat_eq c p then e else 0) p ps in
@@ -231,12 +231,15 @@ module _ (width : ℕ) (old : Tree ℕ) (tuple : Cell ℕ) (d : Deletion) (h : I
           (ap (λ j. Some j) same, ap (λ j. cell_prefix j c) (sym same) ∙ some_same e)
       go false k e = cc
 
+  abbrev prefix_of : ℕ → NodeCell → Option (Cell ℕ)
+  prefix_of n b = prefix_if n b.cell (last_any_of b.cell)
+
   prefixes_at : ℕ → List (Cell ℕ)
-  prefixes_at n = filter_map (λ (b : NodeCell). prefix_if n b.cell (last_any_of b.cell)) list
+  prefixes_at n = filter_map (prefix_of n) list
 
   prefixes_once : (n : ℕ) → EachOnce (prefixes_at n)
   unfolding prefixes_at
-  prefixes_once n = once_filtered (λ (b : NodeCell). prefix_if n b.cell (last_any_of b.cell)) list (λ x z y m k e f.
+  prefixes_once n = once_filtered (prefix_of n) list (λ x z y m k e f.
       let a = prefix_is n x.cell y (last_any_of x.cell) e in
       let b = prefix_is n z.cell y (last_any_of z.cell) f in
       let p = at_place x m in
@@ -252,52 +255,44 @@ module _ (width : ℕ) (old : Tree ℕ) (tuple : Cell ℕ) (d : Deletion) (h : I
   before n c None = 0
   before n c (Some i) = if nat_lt i n then labels_of old list (cell_prefix i c) else 0
 
-  here_sum : (n : ℕ) (bs : List NodeCell)
-      → sum_by (λ (b : NodeCell). here n b.cell (last_any_of b.cell)) bs ≡ sum_by (labels_of old list)
-      (filter_map (λ (b : NodeCell). prefix_if n b.cell (last_any_of b.cell)) bs)
+  abbrev here_at : ℕ → NodeCell → ℕ
+  here_at n b = here n b.cell (last_any_of b.cell)
+
+  abbrev before_at : ℕ → NodeCell → ℕ
+  before_at n b = before n b.cell (last_any_of b.cell)
+
+  here_sum : (n : ℕ) (bs : List NodeCell) → sum_by (here_at n) bs ≡ sum_by (labels_of old list)
+      (filter_map (prefix_of n) bs)
   here_sum n [] = refl
   here_sum n (b ∷ bs) = by (last_any_of b.cell) refl (here_sum n bs)
     where
-      tested : (i : ℕ) (s : Bool)
-          → sum_by (λ (b : NodeCell). here n b.cell (last_any_of b.cell)) bs ≡ sum_by (labels_of old list)
-          (filter_map (λ (b : NodeCell). prefix_if n b.cell (last_any_of b.cell)) bs)
+      tested : (i : ℕ) (s : Bool) → sum_by (here_at n) bs ≡ sum_by (labels_of old list) (filter_map (prefix_of n) bs)
           → (if s then labels_of old list (cell_prefix i b.cell) else 0)
-          + sum_by (λ (b : NodeCell). here n b.cell (last_any_of b.cell)) bs ≡ sum_by (labels_of old list)
-          (cons_option (if s then Some (cell_prefix i b.cell) else None)
-          (filter_map (λ (b : NodeCell). prefix_if n b.cell (last_any_of b.cell)) bs))
+          + sum_by (here_at n) bs ≡ sum_by (labels_of old list)
+          (cons_option (if s then Some (cell_prefix i b.cell) else None) (filter_map (prefix_of n) bs))
       tested i true more = ap (λ m. labels_of old list (cell_prefix i b.cell) + m) more
-          ∙ sym (sum_by-cons (labels_of old list) (cell_prefix i b.cell)
-          (filter_map (λ (b : NodeCell). prefix_if n b.cell (last_any_of b.cell)) bs))
-      tested i false more = zero_plus (sum_by (λ (b : NodeCell). here n b.cell (last_any_of b.cell)) bs) ∙ more
+          ∙ sym (sum_by-cons (labels_of old list) (cell_prefix i b.cell) (filter_map (prefix_of n) bs))
+      tested i false more = zero_plus (sum_by (here_at n) bs) ∙ more
 
-      one : (o : Option ℕ) → sum_by (λ (b : NodeCell). here n b.cell (last_any_of b.cell)) bs
-          ≡ sum_by (labels_of old list) (filter_map (λ (b : NodeCell). prefix_if n b.cell (last_any_of b.cell)) bs)
-          → here n b.cell o + sum_by (λ (b : NodeCell). here n b.cell (last_any_of b.cell)) bs
-          ≡ sum_by (labels_of old list)
-          (cons_option (prefix_if n b.cell o)
-          (filter_map (λ (b : NodeCell). prefix_if n b.cell (last_any_of b.cell)) bs))
-      one None more = zero_plus (sum_by (λ (b : NodeCell). here n b.cell (last_any_of b.cell)) bs) ∙ more
+      one : (o : Option ℕ) → sum_by (here_at n) bs ≡ sum_by (labels_of old list) (filter_map (prefix_of n) bs)
+          → here n b.cell o + sum_by (here_at n) bs ≡ sum_by (labels_of old list) (cons_option (prefix_if n b.cell o)
+          (filter_map (prefix_of n) bs))
+      one None more = zero_plus (sum_by (here_at n) bs) ∙ more
       one (Some i) more = tested i (nat_eq i n) more
 
-      by : (o : Option ℕ) → last_any_of b.cell ≡ o
-          → sum_by (λ (b : NodeCell). here n b.cell (last_any_of b.cell)) bs ≡ sum_by (labels_of old list)
-          (filter_map (λ (b : NodeCell). prefix_if n b.cell (last_any_of b.cell)) bs)
-          → sum_by (λ (b : NodeCell). here n b.cell (last_any_of b.cell)) (b ∷ bs) ≡ sum_by (labels_of old list)
-          (filter_map (λ (b : NodeCell). prefix_if n b.cell (last_any_of b.cell)) (b ∷ bs))
-      by o e more = sum_by-cons (λ (b : NodeCell). here n b.cell (last_any_of b.cell)) b bs
-          ∙ one (last_any_of b.cell) more
+      by : (o : Option ℕ) → last_any_of b.cell ≡ o → sum_by (here_at n) bs ≡ sum_by (labels_of old list)
+          (filter_map (prefix_of n) bs) → sum_by (here_at n) (b ∷ bs) ≡ sum_by (labels_of old list)
+          (filter_map (prefix_of n) (b ∷ bs))
+      by o e more = sum_by-cons (here_at n) b bs ∙ one (last_any_of b.cell) more
 
-  here_within : (n : ℕ) → sum_by (λ (b : NodeCell). here n b.cell (last_any_of b.cell)) list ≤ sum_by
-      (edge_many old) list
+  here_within : (n : ℕ) → sum_by (here_at n) list ≤ sum_by (edge_many old) list
   unfolding prefixes_at
   here_within n = let same = here_sum n list in
       let le = labels_within old list (prefixes_at n) (prefixes_once n) in omega arith
 
-  before_within : (n : ℕ)
-      → sum_by (λ (b : NodeCell). before n b.cell (last_any_of b.cell)) list ≤ n * sum_by (edge_many old) list
+  before_within : (n : ℕ) → sum_by (before_at n) list ≤ n * sum_by (edge_many old) list
   before_within zero =
-      let none = sum_zero (λ (b : NodeCell). before 0 b.cell (last_any_of b.cell)) list
-      (λ b. by b.cell (last_any_of b.cell)) in omega arith
+      let none = sum_zero (before_at 0) list (λ b. by b.cell (last_any_of b.cell)) in omega arith
     where
       by : (c : Cell ℕ) (o : Option ℕ) → before 0 c o ≡ 0
       by c None = refl
@@ -309,9 +304,7 @@ module _ (width : ℕ) (old : Tree ℕ) (tuple : Cell ℕ) (d : Deletion) (h : I
   before_within (suc n) =
       let more = before_within n in
       let now = here_within n in
-      let both = sum_two (λ (b : NodeCell). before n b.cell (last_any_of b.cell))
-      (λ (b : NodeCell). here n b.cell (last_any_of b.cell))
-      (λ (b : NodeCell). before (suc n) b.cell (last_any_of b.cell)) list (λ b. by b.cell (last_any_of b.cell)) in
+      let both = sum_two (before_at n) (here_at n) (before_at (suc n)) list (λ b. by b.cell (last_any_of b.cell)) in
       omega arith
     where
       tested : (i w : ℕ) (p q r : Bool) → nat_lt i (suc n) ≡ p → nat_lt i n ≡ q → nat_eq i n ≡ r
@@ -406,7 +399,7 @@ module _ (width : ℕ) (old : Tree ℕ) (tuple : Cell ℕ) (d : Deletion) (h : I
       (λ x z m k e. same_place x z m k (ap (λ (n : Node ℕ (Cell ℕ)). n.cell) e)) once in
       let le = sum_within (λ (n : Node ℕ (Cell ℕ)). 1 + length n.edges) (map node_at list)
       (generalizing_nodes nat_cmp (rows_before d) d.r.tuple) apart (λ n m. let b = among_map node_at n list m in
-      subst (λ x. Among x (generalizing_nodes nat_cmp (rows_before d) d.r.tuple)) (sym b.2) (listed b.0 b.1)) in
+      rw b.2 (listed b.0 b.1)) in
       let target_after_row = sum_by-map (λ (n : Node ℕ (Cell ℕ)). 1 + length n.edges) node_at list in
       let alike = sum_alike (λ (b : NodeCell). 1 + edge_many old b) (λ (b : NodeCell). 1 + length (node_at b).edges)
       list (λ b m. ap (λ n. 1 + n) (same_edges b m)) in
@@ -437,7 +430,7 @@ module _ (width : ℕ) (old : Tree ℕ) (tuple : Cell ℕ) (d : Deletion) (h : I
       let le = times_mono (4 * length tuple + 7)
       (length list + sum_by (λ (b : NodeCell). prefix_labels old list b.cell (last_any_of b.cell)) list)
       (length list + length tuple * sum_by (edge_many old) list) (omega arith) in
-      subst (λ n. n ≤ (4 * length tuple + 7) * (length list + length tuple * sum_by (edge_many old) list)) (sym same) le
+      rw same le
 
   -- a count of steps by numbers alone
   bound : (n m e : ℕ) → 1 + n * (2 * m) + m + (2 * n + 3 + (4 * n + 7) * (m + n * e)) + ((5 + 2 * n) * m + 3 * e)
@@ -470,5 +463,4 @@ module _ (width : ℕ) (old : Tree ℕ) (tuple : Cell ℕ) (d : Deletion) (h : I
       (rows_after d) d.r.tuple + 1) =
       more_above ((length tuple + 1) * (length tuple + 1)) (generalizing_size nat_cmp (rows_before d) d.r.tuple)
       (generalizing_size nat_cmp (rows_after d) d.r.tuple) in
-      subst (λ k. s4 ≤ s0 + 256 * k * (affected_size nat_cmp (rows_before d) (rows_after d) d.r.tuple + 1))
-      (sym (square (length tuple + 1))) (omega (arith, a, b, c, e, plan, last, sum_is, grown, up))
+      rw (square (length tuple + 1)) (omega (arith, a, b, c, e, plan, last, sum_is, grown, up))

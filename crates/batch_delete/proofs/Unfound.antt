@@ -29,7 +29,6 @@ unfound_label dims nodes d tree u long i v w vs x here none rest had = go (nat_e
     go false e =
         let tested : (nat_eq x.dim i && not (nat_eq x.value v)) ≡ true
         = ap (λ b. nat_eq x.dim i && not b) e ∙ ap (λ b. b && true) here in
-        subst (λ (l : List ℕ). IsTotal d u i v w l rest)
-        (sym (ap (λ (o : Option ℕ). vs ++ cons_option o []) (cond-true _ (Some x.value) None tested)))
+        rw (ap (λ (o : Option ℕ). vs ++ cons_option o []) (cond-true _ (Some x.value) None tested))
         (nothing_more d u i v w vs rest had x.value (eq_cmp x.value v ∙ e)
         (none_rest dims nodes d tree _ (length-set u i (Some x.value) ∙ long) none))

@@ -1,6 +1,6 @@
 -- What a class comes to without the row: its other tuples' rows, and the tuple's that stay.
 use Rattle.std.proofs.Common.{◌≡◌, ◌∙◌, ℕ, ◌+◌, ◌<◌, ◌≤◌, Bool, true, false, cond, not, Option, Some, None, List, [], ◌∷◌, ◌++◌, ap, ap₂}
-use Rattle.std.proofs.Common.{arith, filter, length, nat_cmp, refl, subst, sym}
+use Rattle.std.proofs.Common.{arith, filter, length, nat_cmp, refl, sym}
 use Rattle.std.proofs.lemmas.Bool.{cond-true}
 use Rattle.std.proofs.lemmas.List.FromFn.{length-map-range_with_len}
 use Rattle.std.specs.Ordering.{eq_by_cmp}
@@ -114,7 +114,7 @@ tuple_closes d t row = (own, by (closure (eq_by_cmp nat_cmp) (rows_before d) t) 
     by None q = let bad = sym (closure-insert law d.xs d.r d.ys t ∙ cond-true _ _ _ own) ∙ q in cc
     by (Some w) q =
         let up = leq-closure law (rows_before d) t w q in
-        let down = subst (λ c. leq (eq_by_cmp nat_cmp) w c ≡ true) (sym row) (below_row law d.xs d.r d.ys t w own q) in
+        let down = rw (← row) at (below_row law d.xs d.r d.ys t w own q) in
         q ∙ ap (λ c. Some c) (leq_antisymm law w t down up)
 
 module _ (dims : ℕ) (tree : Tree ℕ) (d : Deletion) (h : IsTreeOf dims tree (source_before d)) where
@@ -157,7 +157,7 @@ pub left_of : (d : Deletion) (row : DeletedRow) (u : Cell ℕ) (whole gone other
     ≡ join_aggs (agg_at (eq_by_cmp nat_cmp) d.measures (rows_after d) row.tuple.now) (Some (agg_in others)))
 left_of d row u whole gone others is below e all less told =
     let t = row.tuple.now in
-    let up = subst (λ t. leq (eq_by_cmp nat_cmp) u t ≡ true) (sym is.tuple) below in
+    let up = rw (← is.tuple) at below in
     left d u t up (tuple_closes d t is.tuple).0 whole gone others e (sym (ap (option_map agg_in) all) ∙ is.all) less told
 
 pub twins_long : (d : Deletion) (t : Cell ℕ) (a : Agg) → agg_at (eq_by_cmp nat_cmp) d.measures (rows_after d) t ≡ Some a

@@ -1,7 +1,7 @@
 -- What a node and the tuple share, read on the way up.
 use Rattle.std.proofs.Common.{◌≡◌, ◌≢◌, ℕ, All, List, [], ◌∷◌, is_some, nat_cmp, slice_index_or, suc, ◌+◌, ◌^◌, ◌≤◌, ◌<◌, Bool, true, false}
 use Rattle.std.proofs.Common.{not, ◌&&◌, Option, Some, None, IsSome, length, nat_eq, replicate, slice_get, if◌then◌else◌, refl, sym, ap}
-use Rattle.std.proofs.Common.{subst, ◌∙◌, true≢false, arith, eqb-true}
+use Rattle.std.proofs.Common.{◌∙◌, true≢false, arith, eqb-true}
 use Rattle.std.proofs.lemmas.Nat.{pow_pos}
 use Rattle.std.proofs.lemmas.Bool.{false_from_ne_true}
 use Rattle.std.proofs.Math.Logic.{∥∥₁_elim}
@@ -68,14 +68,14 @@ module _ (t : Cell ℕ) (a : Arena) (ready : IsReady a) (wide : length t ≡ a.w
         let up : option_map (cell_at a.now) (record_at a.now k).parent
         ≡ Some (Some (cell_prefix j (record_at a.now k).cell))
         = ∥∥₁_elim ready.tree (hlevel props) (λ s. parent_is nat_cmp_total map.nat_cmp-IsAntisymmetric a.width
-        s.0.measures s.0.rows s.1.wide a.now s.1.canonical k (record_at a.now k) (there_is a.now k h) j label.0) in
+        s.0.measures s.0.rows s.1.wide a.now s.1.canonical k _ (there_is a.now k h) j label.0) in
         let is : cell_at a.now x.0 ≡ Some (cell_prefix j (record_at a.now k).cell)
         = some_same (sym (ap (λ y. option_map (cell_at a.now) (option_map number y)) q)
         ∙ ap (option_map (cell_at a.now)) p ∙ up) in
         let own : (record_at a.now x.0).cell ≡ cell_prefix j (record_at a.now k).cell
-        = cell_of a.now x.0 (cell_prefix j (record_at a.now k).cell) is in
+        = cell_of a.now x.0 _ is in
         record {
-          there = there a.now x.0 (cell_prefix j (record_at a.now k).cell) is;
+          there = there a.now x.0 _ is;
           common = last_mask (record_at a.now k).cell t j v label.0 label.1 (long_at k h)
               ∙ ap (λ c. mask (meet nat_eq c t) + bit_for t j v) (sym own);
           below = last_leq (record_at a.now k).cell t j v label.0 label.1 (long_at k h)
@@ -101,8 +101,7 @@ module _ (t : Cell ℕ) (a : Arena) (ready : IsReady a) (wide : length t ≡ a.w
 
   pub below_on : leq nat_eq (record_at a.now n).cell t ≡ (own && leq nat_eq (record_at a.now k).cell t)
       → leq nat_eq (record_at a.now n).cell t ≡ ((own && not (nat_eq bit 0)) && leq nat_eq (record_at a.now m).cell t)
-  below_on h = regroup (leq nat_eq (record_at a.now n).cell t) own (not (nat_eq bit 0))
-      (leq nat_eq (record_at a.now k).cell t) (leq nat_eq (record_at a.now m).cell t) h
+  below_on h = regroup _ own (not (nat_eq bit 0)) _ _ h
       (up.below ∙ ap (λ b. b && leq nat_eq (record_at a.now m).cell t) (sym (has_bit (agrees t j v) j bit is)))
 
 -- what a node's record shares with t
@@ -114,7 +113,7 @@ record_shares t a k m own s = let c = cell_of a.now k s.cell s.at in
 module _ (t : Cell ℕ) (a : Arena) (ready : IsReady a) (wide : length t ≡ a.width) (few : length t ≤ 16) where
   -- what is shared is a mask
   pub common_fits : (k : ℕ) → IsSome (map.get a.now k) → mask (meet nat_eq (record_at a.now k).cell t) < 65536
-  common_fits k h = mask_fits (meet nat_eq (record_at a.now k).cell t) (length t)
+  common_fits k h = mask_fits _ _
       (length-meet nat_eq (record_at a.now k).cell t (long_at t a ready wide k h) ∙ long_at t a ready wide k h) few
 
   -- the walk ends at the root, and at the chain's node
@@ -138,8 +137,8 @@ module _ (t : Cell ℕ) (a : Arena) (ready : IsReady a) (wide : length t ≡ a.w
       → IfSome o (λ x. Shares t a.now m own x.0) → (mask (meet nat_eq (record_at a.now k.0).cell t) ≡ m)
       × (leq nat_eq (record_at a.now k.0).cell t ≡ own)
   shared_there None k m own e h = cc
-  shared_there (Some x) k m own e h
-      = record_shares t a k.0 m own (subst (λ (y : NodeNo). Shares t a.now m own y.0) (some_same e) h)
+  shared_there _ k m own e h
+      = record_shares t a k.0 m own (rw (← (some_same e)) h)
 
 -- where a label leads
 abbrev pub target : Cell ℕ → Tree ℕ → ℕ → Option NodeNo → Cell ℕ
@@ -168,7 +167,7 @@ module _ (t : Cell ℕ) (tree : Tree ℕ) (i m : ℕ) (own : Bool) where
 
   pub target_apart : (o : Option NodeNo) → IfSome o (λ k. Shares t tree m own k.0) → own ≡ false → IsApart t tree o
   target_apart None h e = tt
-  target_apart (Some k) h e = (h.cell, h.at, subst (λ eq. leq eq h.cell t ≡ false) (sym one_test) (h.below ∙ e))
+  target_apart _ h e = (h.cell, h.at, rw one_test (h.below ∙ e))
 
   pub target_below : (o : Option NodeNo) → IfSome o (λ k. Shares t tree m own k.0)
       → leq nat_eq (target_after_row nat_eq (option_and_then (λ k. cell_at tree k.0) o) t i) t ≡ true
@@ -178,11 +177,11 @@ module _ (t : Cell ℕ) (tree : Tree ℕ) (i m : ℕ) (own : Bool) where
 pub target_long : (t : Cell ℕ) (a : Arena) (ready : IsReady a) (wide : length t ≡ a.width) (i m : ℕ) (own : Bool)
     (o : Option NodeNo) → IfSome o (λ k. Shares t a.now m own k.0)
     → length (target_after_row nat_eq (option_and_then (λ k. cell_at a.now k.0) o) t i) ≡ length t
-target_long t a ready wide i m own None h = length-cell_prefix (suc i) t
+target_long t a ready wide i m own None h = length-cell_prefix _ t
 target_long t a ready wide i m own (Some k) h =
     let l : length h.cell ≡ length t = ap length (sym (cell_of a.now k.0 h.cell h.at))
     ∙ long_at t a ready wide k.0 (there a.now k.0 h.cell h.at) in
-    ap length (met_is t a.now i m own (Some k) k refl h) ∙ length-meet nat_eq h.cell t l ∙ l
+    ap length (met_is t a.now i m own _ k refl h) ∙ length-meet nat_eq h.cell t l ∙ l
 
 pub target_old : (t : Cell ℕ) (a : Arena) (ready : IsReady a) (wide : length t ≡ a.width) (m : ℕ) (own : Bool)
     (o : Option NodeNo) → IfSome o (λ k. Shares t a.now m own k.0) → own ≡ true → IfSome o (λ k. IsOld t a.now m k.0)
@@ -205,13 +204,13 @@ shares_moved {t = t} c p i m v w k n masked at o leads next front =
     let met : cell_prefix (suc i) (meet (eq_by_cmp nat_cmp) t s.0) ≡ p
     = ap (λ y. cell_prefix (suc i) (meet_after (eq_by_cmp nat_cmp) t y)) (sym s.1) ∙ front in
     let turned : meet nat_eq (cell_prefix (suc i) s.0) t ≡ p
-    = sym (cell_prefix-meet nat_equality (suc i) s.0 t) ∙ ap (cell_prefix (suc i)) (meet_comm nat_equality s.0 t)
+    = sym (cell_prefix-meet nat_equality _ s.0 t) ∙ ap (cell_prefix (suc i)) (meet_comm nat_equality s.0 t)
     ∙ ap (λ eq. cell_prefix (suc i) (meet eq t s.0)) (sym one_test) ∙ met in
     record {
       cell = cell_prefix (suc i) s.0;
       at = x.1;
       common = ap mask turned ∙ masked;
-      below = apart_at (cell_prefix (suc i) s.0) t i v w (get-cell_prefix i (suc i) s.0 (omega arith) ∙ x.0)
+      below = apart_at (cell_prefix (suc i) s.0) t i v w (get-cell_prefix i _ s.0 (omega arith) ∙ x.0)
           (entry_is t i v at) o;
     }
 
@@ -258,6 +257,6 @@ pub root_shares : (t : Cell ℕ) (a : Arena) (wide : length t ≡ a.width) (o : 
     → IfSome o (λ k. cell_at a.now k.0 ≡ Some (replicate a.width None)) → own ≡ is_some o
     → IfSome o (λ k. Shares t a.now 0 own k.0)
 root_shares t a wide None own h e = tt
-root_shares t a wide (Some k) own h e =
+root_shares t a wide _ own h e =
     let r = any_met a.width t (sym wide) in
     record { cell = replicate a.width None; at = h; common = r.0; below = r.1 ∙ sym e }

@@ -1,11 +1,11 @@
 -- The steps of a plan and of its writes, part by part.
 use Rattle.std.proofs.Common.{◌≡◌, inl, inr, ℕ, zero, suc, ◌+◌, ◌*◌, ◌^◌, ◌<◌, ◌≤◌, List, [], ◌∷◌, ◌++◌, length, take, get_or, refl, ap}
-use Rattle.std.proofs.Common.{subst, ◌∙◌, arith, length-append}
+use Rattle.std.proofs.Common.{◌∙◌, arith, length-append}
 use Rattle.std.proofs.lemmas.List.Sums.{sum_by-append, sum_by-cons, sum_by_more}
 use Rattle.std.proofs.Math.Nat.{add-mul, mul-le-mul_right, one-le-pow}
 use Rattle.std.specs.List.{sum_by}
 use Rattle.std.proofs.lemmas.List.{take_more}
-use Rattle.cube_defs.specs.Cell.{Cell, depth, mask}
+use Rattle.cube_defs.specs.Cell.{Cell, mask}
 use Rattle.cube_defs.specs.Tree.{Tree}
 use Rattle.cube_laws.specs.Lists.{Among}
 use Rattle.qc_arena.specs.Map.{Arena}
@@ -49,46 +49,48 @@ copying_more tree xs ys x s o e w h le
 pub copying_within : {t : Cell ℕ} {a : Arena} (c : Case t a) (x : LabelCopy) → IsCopyOf c x
     → (p : Cell ℕ) (i : ℕ) → IsPrefix c p i → x.mask ≡ mask p → copy_cost a.now x ≤ 1 + 2 * edges_at c p
 copying_within {a = a} c x is p i front dims =
-    subst (λ q. copy_cost a.now x ≤ 1 + 2 * edges_at c q)
-    (prefix_told c is.node p (prefix_before c is.node (depth is.node) is.dim (prefix_deep c is.node is.dim is.front)
+    rw (← (prefix_told c is.node p (prefix_before c is.node _ is.dim (prefix_deep c is.node is.dim is.front)
     (omega arith) is.front)
-    (prefix_before c p (depth p) i (prefix_deep c p i front) (omega arith) front) (is.dims ∙ dims)) (copy_within c x is)
+    (prefix_before c p _ i (prefix_deep c p i front) (omega arith) front) (is.dims ∙ dims))) (copy_within c x is)
 
 -- sums over the first parts
 pub taken_length : {X : Type 0} (xs : List X) (k : ℕ) (d : X) → k < length xs
     → length (take (k + 1) xs) ≡ length (take k xs) + 1
-taken_length xs k d h = ap length (take_more xs k d h) ∙ length-append (take k xs) (get_or xs k d ∷ [])
+taken_length xs k d h = ap length (take_more xs k d h) ∙ length-append _ (get_or xs k d ∷ [])
 
 -- one dimension of a node's plan: its weight is so many for each
 module _ (n e : ℕ) where
-  next_times : (i : ℕ) → (i + 1) * (2 * n + 7 + 2 * e) ≡ i * (2 * n + 7 + 2 * e) + (2 * n + 7 + 2 * e)
-  next_times i = let h = add-mul i 1 (2 * n + 7 + 2 * e) in omega (arith, h)
+  abbrev each_dim : ℕ
+  each_dim = 2 * n + 7 + 2 * e
 
-  pub turn_start : (s k b m i : ℕ) → m ≤ k + (1 + 2 * e) → s + m + b ≤ s + k + b + (1 + 2 * e) + i * (2 * n + 7 + 2 * e)
+  next_times : (i : ℕ) → (i + 1) * each_dim ≡ i * each_dim + each_dim
+  next_times i = let h = add-mul i 1 each_dim in omega (arith, h)
+
+  pub turn_start : (s k b m i : ℕ) → m ≤ k + (1 + 2 * e) → s + m + b ≤ s + k + b + (1 + 2 * e) + i * each_dim
   turn_start s k b m i h = omega (arith, h)
 
   pub turn_costs : (s k b start i : ℕ) (s1 k1 b1 more s2 k2 : ℕ)
-      → s + k + b ≤ start + (1 + 2 * e) + i * (2 * n + 7 + 2 * e) → s1 + k1 ≤ s + k + (2 * n + 5) + more → b1 + more ≤ b
+      → s + k + b ≤ start + (1 + 2 * e) + i * each_dim → s1 + k1 ≤ s + k + (2 * n + 5) + more → b1 + more ≤ b
       → s2 ≤ s1 + 1 → k2 ≤ k1 + (1 + 2 * e)
-      → s2 + k2 + b1 ≤ start + (1 + 2 * e) + (i + 1) * (2 * n + 7 + 2 * e)
+      → s2 + k2 + b1 ≤ start + (1 + 2 * e) + (i + 1) * each_dim
   turn_costs s k b start i s1 k1 b1 more s2 k2 h l m o p = omega (arith, h, l, m, o, p, next_times i)
 
   -- the forced child ends it
   pub forced_costs : (s k b start i : ℕ) (s1 k1 b1 more s2 k2 : ℕ)
-      → s + k + b ≤ start + (1 + 2 * e) + i * (2 * n + 7 + 2 * e) → s1 + k1 ≤ s + k + (2 * n + 5) + more → b1 + more ≤ b
+      → s + k + b ≤ start + (1 + 2 * e) + i * each_dim → s1 + k1 ≤ s + k + (2 * n + 5) + more → b1 + more ≤ b
       → s2 ≤ s1 + 1 → k2 ≤ k1 + 2
-      → i < n → 6 + 2 * e + n * (2 * n + 7 + 2 * e) ≤ b1 → s2 + k2 + 1 ≤ start
+      → i < n → 6 + 2 * e + n * each_dim ≤ b1 → s2 + k2 + 1 ≤ start
   forced_costs s k b start i s1 k1 b1 more s2 k2 h l m o p before own =
-      let all : (i + 1) * (2 * n + 7 + 2 * e) ≤ n * (2 * n + 7 + 2 * e)
-      = mul-le-mul_right (2 * n + 7 + 2 * e) (omega (arith, before)) in
+      let all : (i + 1) * each_dim ≤ n * each_dim
+      = mul-le-mul_right each_dim (omega (arith, before)) in
       omega (arith, h, l, m, o, p, own, next_times i, all)
 
   -- the class ends it
-  pub class_costs : (s k b start i : ℕ) (s2 k2 : ℕ) → s + k + b ≤ start + (1 + 2 * e) + i * (2 * n + 7 + 2 * e)
+  pub class_costs : (s k b start i : ℕ) (s2 k2 : ℕ) → s + k + b ≤ start + (1 + 2 * e) + i * each_dim
       → s2 ≤ s + 1 → k2 ≤ k + 2
-      → i ≤ n → 6 + 2 * e + n * (2 * n + 7 + 2 * e) ≤ b → s2 + k2 + 1 ≤ start
+      → i ≤ n → 6 + 2 * e + n * each_dim ≤ b → s2 + k2 + 1 ≤ start
   class_costs s k b start i s2 k2 h o p before own =
-      let all : i * (2 * n + 7 + 2 * e) ≤ n * (2 * n + 7 + 2 * e) = mul-le-mul_right (2 * n + 7 + 2 * e) before in
+      let all : i * each_dim ≤ n * each_dim = mul-le-mul_right each_dim before in
       omega (arith, h, o, p, own, all)
 
 -- a label, and the child that it may lead to
@@ -112,7 +114,7 @@ all_steps n below before after s0 s1 s2 s3 s4 planned_nodes writes b one two thr
 
 pub taken_le : {X : Type 0} (xs : List X) (k : ℕ) → length (take k xs) ≤ length xs
 taken_le [] zero = omega arith
-taken_le [] (suc k) = omega arith
+taken_le [] _ = omega arith
 taken_le (x ∷ xs) zero = omega arith
 taken_le (x ∷ xs) (suc k) = let h = taken_le xs k in omega (arith, h)
 
@@ -122,7 +124,7 @@ taken_more f xs k d h s s1 s2 a b = let e = sum_by_more f xs k d h in omega (ari
 
 pub among_taken : {X : Type 0} (x : X) (xs : List X) (k : ℕ) → Among x (take k xs) → Among x xs
 among_taken x [] zero m = absurd m
-among_taken x [] (suc k) m = absurd m
+among_taken x [] _ m = absurd m
 among_taken x (y ∷ xs) zero m = absurd m
 among_taken x (y ∷ xs) (suc k) (inl m) = inl m
 among_taken x (y ∷ xs) (suc k) (inr m) = inr (among_taken x xs k m)

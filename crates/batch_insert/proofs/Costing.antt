@@ -1,6 +1,6 @@
 -- An insertion costs no more than the nodes that generalize the tuple, and their edges, allow.
 use Rattle.std.proofs.Common.{◌≡◌, inl, inr, ℕ, suc, ◌+◌, ◌*◌, ◌^◌, ◌<◌, ◌≤◌, Bool, true, false, cond, Option, Some, None, List, [], ◌∷◌}
-use Rattle.std.proofs.Common.{◌++◌, filter, map, sum, length, nat_cmp, refl, sym, ap, ap₂, subst, ◌∙◌, arith, true≢false}
+use Rattle.std.proofs.Common.{◌++◌, filter, map, sum, length, nat_cmp, refl, sym, ap, ap₂, ◌∙◌, arith, true≢false}
 use Rattle.std.proofs.lemmas.Bool.{cond-true, cond-false}
 use Rattle.std.proofs.lemmas.List.Sums.{sum_by-cons}
 use Rattle.std.specs.List.{cons_option, filter_map, sum_by}
@@ -61,7 +61,7 @@ no_more : {T : Type 0} (xs : List (Edge ℕ ℕ)) (ys : List (Edge ℕ T)) → A
     → length xs ≤ length ys
 no_more xs ys up has =
     let le : sum_by (λ z. 1) (map label xs) ≤ sum_by (λ z. 1) (map label ys)
-    = sum_within (λ z. 1) (map label xs) (map label ys) (labels_once xs up) to in
+    = sum_within (λ z. 1) _ _ (labels_once xs up) to in
     omega (arith, le, sum_ones (map label xs), sum_ones (map label ys), length-map xs label, length-map ys label)
   where
     to : (z : Edge ℕ ℕ) → Among z (map label xs) → Among z (map label ys)
@@ -69,7 +69,7 @@ no_more xs ys up has =
         let x : (x : Edge ℕ ℕ) × Among x xs × (z ≡ label x) = among_map label z xs m in
         let y = has x.0 x.1 in
         let same : label y.0 ≡ z = (λ i. record { dim = sym y.2 i; value = sym y.3 i; target = 0 }) ∙ sym x.2 in
-        subst (λ w. Among w (map label ys)) same (map_among label y.0 ys y.1)
+        rw (← same) (map_among label y.0 ys y.1)
 
 both_cases : (p q r : Bool) (w : ℕ) → (p ≡ true → r ≡ true) → (q ≡ true → r ≡ true) → (p ≡ true → q ≡ true → ⊥)
     → cond p w 0 + cond q w 0 ≤ cond r w 0
@@ -88,9 +88,9 @@ module _ {t : Cell ℕ} {a : Arena} (c : Case t a) where
   -- a node that generalizes t
   listed : (p : Cell ℕ) → IsPrefix c p (depth p) → Among p (nodes_with c)
   listed p front =
-      among_filter (λ q. leq (eq_by_cmp nat_cmp) q t) p (nodes nat_cmp (c.xs ++ c.row ∷ c.ys))
+      among_filter (λ q. leq (eq_by_cmp nat_cmp) q t) p _
       ((nodes-is nat_cmp_total finmap.nat_cmp-IsAntisymmetric a.width (c.xs ++ c.row ∷ c.ys) (rows_wide c) p).1
-      (node_of_prefix c p front)) (prefix_leq c p (depth p) front)
+      (node_of_prefix c p front)) (prefix_leq c p _ front)
 
   -- what it costs is within what all cost whose prefix it is
   pub own_cost : (p : Cell ℕ) (i : ℕ) → IsPrefix c p (depth p) → depth p ≤ i → weight c p ≤ generalizing_cost c p i
@@ -99,11 +99,9 @@ module _ {t : Cell ℕ} {a : Arena} (c : Case t a) where
       let f : Cell ℕ → ℕ = λ q. cond (cell_eq (eq_by_cmp nat_cmp) (cell_prefix i q) p) (weight c q) 0 in
       let le : sum_by f (p ∷ []) ≤ sum_by f (nodes_with c)
       = sum_within f (p ∷ []) (nodes_with c) ((λ m. m), tt)
-      (λ q m. elim m [ inl e ↦ subst (λ x. Among x (nodes_with c)) (sym e) (listed p front) | inr n ↦ absurd n ]) in
+      (λ q m. elim m [ inl e ↦ rw e (listed p front) | inr n ↦ absurd n ]) in
       let here : f p ≡ weight c p
-      = cond-true _ (weight c p) 0
-      (subst (λ x. cell_eq (eq_by_cmp nat_cmp) x p ≡ true) (sym (cell_prefix-beyond i p deep))
-      (cell_eq-same code_equality p)) in
+      = cond-true _ _ 0 (rw (cell_prefix-beyond i p deep) (cell_eq-same code_equality p)) in
       omega (arith, le, here, sum_by-cons f p [])
 
   -- the costs of the nodes with t's value in a dimension, and of those with none there
@@ -126,7 +124,7 @@ module _ {t : Cell ℕ} {a : Arena} (c : Case t a) where
       absurd (omega (arith, d, depth-with_value p i v d l, ap depth s))))
     where
       is : (q p : Cell ℕ) → cell_prefix i q ≡ p → cell_eq (eq_by_cmp nat_cmp) (cell_prefix i q) p ≡ true
-      is q p e = subst (λ x. cell_eq (eq_by_cmp nat_cmp) x p ≡ true) (sym e) (cell_eq-same code_equality p)
+      is q p e = rw e (cell_eq-same code_equality p)
 
   all_cost : (p : Cell ℕ) (i : ℕ) → generalizing_cost c p i ≤ sum_by (weight c) (nodes_with c)
   unfolding generalizing_cost
@@ -136,7 +134,7 @@ module _ {t : Cell ℕ} {a : Arena} (c : Case t a) where
   -- the labels that are copied are labels of the node with the row
   pub copy_within : (x : LabelCopy) (is : IsCopyOf c x) → copy_cost a.now x ≤ 1 + 2 * edges_at c is.node
   copy_within x is =
-      let r = cell_record a.now x.from.0 (cell_prefix is.dim is.upper) is.from in
+      let r = cell_record a.now x.from.0 _ is.from in
       let le = no_more r.0.edges new
       (ascending r.0.edges (source_rises c is.node is.upper is.dim is.front is.closure x.from.0 r.0 r.1
       r.2)) (λ y m. has r.0 r.1 r.2 y m) in
@@ -148,8 +146,7 @@ module _ {t : Cell ℕ} {a : Arena} (c : Case t a) where
       omega (arith, le, same, here)
     where
       front : IsPrefix c is.node (depth is.node)
-      front = prefix_before c is.node (depth is.node) is.dim (prefix_deep c is.node is.dim is.front)
-          (omega arith) is.front
+      front = prefix_before c is.node _ is.dim (prefix_deep c is.node is.dim is.front) (omega arith) is.front
 
       new : List (Edge ℕ (Cell ℕ))
       new = (record_of nat_cmp 0 (c.xs ++ c.row ∷ c.ys) is.node (new_closure c is.node)).edges
@@ -217,7 +214,7 @@ module _ {t : Cell ℕ} {a : Arena} (c : Case t a) where
           let len : edges_at c q ≡ length x.edges = ap edges_of k in
           let put : both_of (cond (leq (eq_by_cmp nat_cmp) x.cell u) (x ∷ rest) rest) ≡ both_of (x ∷ rest)
           = ap both_of (cond-true (leq (eq_by_cmp nat_cmp) x.cell u) (x ∷ rest) rest
-          (subst (λ (y : Node ℕ (Cell ℕ)). leq (eq_by_cmp nat_cmp) y.cell u ≡ true) (sym (some_same h)) l)) in
+          (rw (some_same h) l)) in
           grown (edges_at c q) (length x.edges) (sum_by (λ q. 1 + edges_at c q) old) (length rest)
           (sum (map (λ n. length n.edges) rest)) (sum_by (λ q. 1 + edges_at c q) (q ∷ old)) len more
           (sum_by-cons (λ q. 1 + edges_at c q) q old)
@@ -228,7 +225,7 @@ module _ {t : Cell ℕ} {a : Arena} (c : Case t a) where
           grown e m s l k w a b c = omega arith
       one r (Some x) h k false false e l more =
           more ∙ sym (ap both_of (cond-false (leq (eq_by_cmp nat_cmp) x.cell u) (x ∷ rest) rest
-          (subst (λ (y : Node ℕ (Cell ℕ)). leq (eq_by_cmp nat_cmp) y.cell u ≡ false) (sym (some_same h)) l)))
+          (rw (some_same h) l)))
       one r (Some x) h k true false e l more = cc
       one r (Some x) h k false true e l more = cc
 
@@ -244,8 +241,7 @@ module _ {t : Cell ℕ} {a : Arena} (c : Case t a) where
 
   -- a node's cost by its edges
   weight_bound : (n e : ℕ) → 6 + 2 * e + n * (2 * n + 7 + 2 * e) ≤ 128 * (n + 1) ^ 2 * (1 + e)
-  weight_bound n e = subst (λ k. 6 + 2 * e + n * (2 * n + 7 + 2 * e) ≤ 128 * k * (1 + e))
-      (sym (square (n + 1))) (product n e)
+  weight_bound n e = rw (square (n + 1)) (product n e)
     where
       product : (n e : ℕ) → 6 + 2 * e + n * (2 * n + 7 + 2 * e) ≤ 128 * ((n + 1) * (n + 1)) * (1 + e)
       product n e = grind arith
@@ -255,7 +251,7 @@ module _ {t : Cell ℕ} {a : Arena} (c : Case t a) where
   sum_scaled k f g [] h = omega arith
   sum_scaled k f g (q ∷ qs) h =
       let more = sum_scaled k f g qs h in
-      let both : k * (g q + sum_by g qs) ≡ k * g q + k * sum_by g qs = mul-add k (g q) (sum_by g qs) in
+      let both : k * (g q + sum_by g qs) ≡ k * g q + k * sum_by g qs = mul-add k (g q) _ in
       let cons : k * sum_by g (q ∷ qs) ≡ k * (g q + sum_by g qs) = ap (λ m. k * m) (sum_by-cons g q qs) in
       omega (arith, more, h q, both, cons, sum_by-cons f q qs)
 
@@ -263,7 +259,7 @@ module _ {t : Cell ℕ} {a : Arena} (c : Case t a) where
       → generalizing_cost c p i ≤ 128 * (length t + 1) ^ 2 * generalizing_size nat_cmp table c.row.tuple
   cost_bound p i =
       let scaled = sum_scaled (128 * (length t + 1) ^ 2) (weight c) (λ q. 1 + edges_at c q) (nodes_with c)
-      (λ q. weight_bound (length t) (edges_at c q)) in
+      (λ q. weight_bound _ _) in
       let same : 128 * (length t + 1) ^ 2 * sum_by (λ q. 1 + edges_at c q) (nodes_with c)
       ≡ 128 * (length t + 1) ^ 2 * generalizing_size nat_cmp table c.row.tuple
       = ap (λ m. 128 * (length t + 1) ^ 2 * m) size_is in

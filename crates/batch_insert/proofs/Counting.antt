@@ -1,6 +1,6 @@
 -- Where a node with the row is still to come, there are more nodes than are there.
 use Rattle.std.proofs.Common.{◌≡◌, ◌≢◌, inl, inr, ℕ, suc, ◌<◌, ◌≤◌, true, Option, Some, None, List, ◌∷◌, ◌++◌, map, length, nat_cmp}
-use Rattle.std.proofs.Common.{replicate, refl, sym, ap, subst, ◌∙◌, arith}
+use Rattle.std.proofs.Common.{replicate, refl, sym, ap, ◌∙◌, arith}
 use Rattle.std.specs.List.{AllByRecursion, sum_by}
 use Rattle.std.specs.Cmp.{nat_cmp_total}
 use Rattle.std.specs.Ordering.{eq_by_cmp}
@@ -16,7 +16,7 @@ use Rattle.qc_arena.specs.Map.{Arena, Known}
 use Rattle.batch_insert.specs.declared.plan.PlannedNode.{PlannedNode}
 use Rattle.batch_insert.specs.Begun.{IsBegun}
 use Rattle.batch_insert.specs.Cases.{Case, IsPrefix, new_nodes}
-use Rattle.batch_insert.specs.Whole.{IsNumberOf, IsPlannedNodeOf}
+use Rattle.batch_insert.specs.Whole.{IsPlannedNodeOf}
 use Rattle.batch_insert.proofs.Each.{flat_prefix, not_begun}
 use Rattle.batch_insert.proofs.Finished.{all_more}
 use Rattle.batch_insert.proofs.Keeping.{cell_known}
@@ -52,7 +52,7 @@ module _ (rows : List (Row ℕ)) (dims : ℕ) (wide : AllByRecursion (λ row. le
       let le : sum_by (λ c. 1) (p ∷ cells) ≤ sum_by (λ c. 1) (nodes nat_cmp rows)
       = sum_within (λ c. 1) (p ∷ cells) (nodes nat_cmp rows) (apart, entries_once b (λ n. n.cell) once) to_nodes in
       let one : sum_by (λ c. 1) (p ∷ cells) ≡ suc (length cells) = sum_ones (p ∷ cells) in
-      let all : sum_by (λ c. 1) (nodes nat_cmp rows) ≡ length (nodes nat_cmp rows) = sum_ones (nodes nat_cmp rows) in
+      let all : sum_by (λ c. 1) (nodes nat_cmp rows) ≡ length (nodes nat_cmp rows) = sum_ones _ in
       let many : numbers.len b ≡ length cells = numbers.len-entries b
       ∙ sym (length-map (numbers.entries b) (λ e. e.1.cell)) in
       omega (arith, le, one, all, many)
@@ -68,26 +68,26 @@ module _ {t : Cell ℕ} {a : Arena} (c : Case t a) where
         → is_node (eq_by_cmp nat_cmp) (c.xs ++ c.row ∷ c.ys) n.cell ≡ true
     each k n h = elim (begun.left k n h) [
       | inl old ↦ node-insert code_equality c.xs c.row c.ys n.cell (c.from.canonical.each k n old).0
-      | inr numbered ↦ let q = begun.nodes (mask n.cell) k numbered in
-          node_of_prefix c n.cell (subst (λ x. IsPrefix c x (depth x)) (some_same (sym q.1 ∙ cell_known b k n h)) q.3)
+      | inr numbered ↦ let q = begun.nodes _ k numbered in
+          node_of_prefix c n.cell (rw (← (some_same (sym q.1 ∙ cell_known b k n h))) q.3)
     ]
 
     numbered_prefix : (k : ℕ) (n : Known) → numbers.get b k ≡ Some n → f (mask n.cell) ≡ Some k
         → IsPrefix c n.cell (depth n.cell)
-    numbered_prefix k n h g = let q = begun.nodes (mask n.cell) k g in
-        subst (λ x. IsPrefix c x (depth x)) (some_same (sym q.1 ∙ cell_known b k n h)) q.3
+    numbered_prefix k n h g = let q = begun.nodes _ k g in
+        rw (← (some_same (sym q.1 ∙ cell_known b k n h))) q.3
 
     once : (k l : ℕ) (n m : Known) → numbers.get b k ≡ Some n → numbers.get b l ≡ Some m → n.cell ≡ m.cell → k ≡ l
     once k l n m h g e = elim (begun.left k n h) [
       | inl old ↦ elim (begun.left l m g) [
         | inl also ↦ c.from.canonical.once k l n.cell (cell_known a.now k n old) (cell_known a.now l m also
             ∙ ap (λ x. Some x) (sym e))
-        | inr numbered ↦ begun.old (mask m.cell) l k n.cell numbered (cell_known a.now k n old)
-            (subst (λ x. IsPrefix c x (depth x)) (sym e) (numbered_prefix l m g numbered)) (ap mask e)
+        | inr numbered ↦ begun.old _ l k n.cell numbered (cell_known a.now k n old)
+            (rw e (numbered_prefix l m g numbered)) (ap mask e)
       ]
       | inr numbered ↦ elim (begun.left l m g) [
-        | inl also ↦ sym (begun.old (mask n.cell) k l m.cell numbered (cell_known a.now l m also)
-            (subst (λ x. IsPrefix c x (depth x)) e (numbered_prefix k n h numbered)) (ap mask (sym e)))
+        | inl also ↦ sym (begun.old _ k l m.cell numbered (cell_known a.now l m also)
+            (rw (← e) (numbered_prefix k n h numbered)) (ap mask (sym e)))
         | inr twice ↦ some_same (sym numbered ∙ ap f (ap mask e) ∙ twice)
       ]
     ]
@@ -107,8 +107,8 @@ module _ {t : Cell ℕ} {a : Arena} (c : Case t a) where
   pub spot_more : (b : Tree ℕ) (f : ℕ → Option ℕ) (s : PlannedNode) (max : ℕ) → IsBegun c b f → f s.mask ≡ None
       → IsPlannedNodeOf c s → s.old ≡ None → numbers.len b ≡ max → max < new_nodes c
   spot_more b f s max begun none is old full =
-      let m = more_nodes b f begun is.node (subst (IsPrefix c is.node) (sym is.deep) is.front) (ap f is.dims ∙ none)
-      (subst (λ o. IsNumberOf a.now o is.node) old is.old) in
+      let m = more_nodes b f begun is.node (rw is.deep is.front) (ap f is.dims ∙ none)
+      (rw old at is.old) in
       omega (arith, m, full)
 
   pub top_more : (max : ℕ) → ((k : ℕ) → cell_at a.now k ≢ Some (replicate a.width None)) → numbers.len a.now ≡ max

@@ -1,5 +1,5 @@
 -- The parts of a plan one after another.
-use Rattle.batch_insert.specs.Stages.{IsStage, HasLabel, HaveCopied, HaveEnded, HaveSet, IsCopied, IsDone, LabelsStay}
+use Rattle.batch_insert.specs.Stages.{IsStage, HaveCopied, HaveEnded, HaveSet, IsCopied, IsDone, LabelsStay}
 use Rattle.std.proofs.Common.{◌≡◌, inl, inr, ℕ, ◌+◌, ◌<◌, Option, Some, None, IsSome, List, [], ◌∷◌, ◌++◌, ℤ, length, take, get_or}
 use Rattle.std.proofs.Common.{replicate, refl, sym, subst, ◌∙◌}
 use Rattle.std.proofs.lemmas.List.{take_more}
@@ -28,13 +28,13 @@ use Rattle.tree_laws.proofs.CallerLemmas.{some_there}
 
 pub numbered_still : (f g : ℕ → Option ℕ) (m : ℕ) → ((q k : ℕ) → f q ≡ Some k → g q ≡ Some k) → IsSome (f m)
     → IsSome (g m)
-numbered_still f g m grows h = let r = some_there (f m) h in subst IsSome (sym (grows m r.0 r.1)) refl
+numbered_still f g m grows h = let r = some_there (f m) h in rw (grows m r.0 r.1) refl
 
 -- the parent of a planned node has a number once the root and the nodes before it have one
 pub known_parent : (f : ℕ → Option ℕ) (xs : List PlannedNode) (m : ℕ) → IsSome (f 0)
     → ((s : PlannedNode) → Among s xs → IsSome (f s.mask)) → IsRootOrPlanned xs m → IsSome (f m)
 known_parent f xs m top known (inl e) = subst (λ n. IsSome (f n)) (sym e) top
-known_parent f xs m top known (inr s) = subst (λ n. IsSome (f n)) s.2 (known s.0 s.1)
+known_parent f xs m top known (inr s) = rw (← s.2) (known s.0 s.1)
 
 -- one more spot has its number
 pub known_next : (xs : List PlannedNode) (k : ℕ) (x z : PlannedNode) → k < length xs → x ≡ get_or xs k z
@@ -42,9 +42,9 @@ pub known_next : (xs : List PlannedNode) (k : ℕ) (x z : PlannedNode) → k < l
     → ((m l : ℕ) → f m ≡ Some l → g m ≡ Some l) → IsSome (g x.mask)
     → (s : PlannedNode) → Among s (take (k + 1) xs) → IsSome (g s.mask)
 known_next xs k x z l e f g old grows new s m
-    = elim ((among_append s (take k xs) (get_or xs k z ∷ [])).0 (subst (λ ys. Among s ys) (take_more xs k z l) m)) [
-      | inl n ↦ let r = some_there (f s.mask) (old s n) in subst IsSome (sym (grows s.mask r.0 r.1)) refl
-      | inr n ↦ elim n [ inl i ↦ subst (λ (y : PlannedNode). IsSome (g y.mask)) (e ∙ sym i) new | inr i ↦ absurd i ]
+    = elim ((among_append s (take k xs) (get_or xs k z ∷ [])).0 (rw (← (take_more xs k z l)) m)) [
+      | inl n ↦ let r = some_there (f s.mask) (old s n) in rw (grows s.mask r.0 r.1) refl
+      | inr n ↦ elim n [ inl i ↦ rw (← (e ∙ sym i)) new | inr i ↦ absurd i ]
     ]
 
 copied_stays : {t : Cell ℕ} {a : Arena} (c : Case t a) (b d : Tree ℕ) (f : ℕ → Option ℕ) (x : LabelCopy)
@@ -78,8 +78,7 @@ module _ (t : Cell ℕ) (f : ℕ → Option ℕ) (b : Tree ℕ) where
     pub copied_next : (xs : List LabelCopy) (k : ℕ) (z : LabelCopy) → k < length xs → HaveCopied t f (take k xs) b d
         → HaveCopied t f (get_or xs k z ∷ []) d e → HaveCopied t f (take (k + 1) xs) b e
     copied_next xs k z l one two
-        = subst (λ ys. HaveCopied t f ys b e) (sym (take_more xs k z l))
-        (copied_then (take k xs) (get_or xs k z) one two)
+        = rw (take_more xs k z l) (copied_then _ _ one two)
 
     set_then : (xs : List TupleLabel) (x : TupleLabel) → HaveSet t f xs b d → HaveSet t f (x ∷ []) d e
         → HaveSet t f (xs ++ x ∷ []) b e
@@ -98,7 +97,7 @@ module _ (t : Cell ℕ) (f : ℕ → Option ℕ) (b : Tree ℕ) where
     pub set_next : (xs : List TupleLabel) (k : ℕ) (z : TupleLabel) → k < length xs → HaveSet t f (take k xs) b d
         → HaveSet t f (get_or xs k z ∷ []) d e → HaveSet t f (take (k + 1) xs) b e
     set_next xs k z l one two
-        = subst (λ ys. HaveSet t f ys b e) (sym (take_more xs k z l)) (set_then (take k xs) (get_or xs k z) one two)
+        = rw (take_more xs k z l) (set_then _ _ one two)
 
     ended_then : (amounts : List ℤ) (xs : List NodeKind) (x : NodeKind) → HaveEnded t amounts f xs b d
         → HaveEnded t amounts f (x ∷ []) d e → HaveEnded t amounts f (xs ++ x ∷ []) b e
@@ -118,8 +117,7 @@ module _ (t : Cell ℕ) (f : ℕ → Option ℕ) (b : Tree ℕ) where
         → HaveEnded t amounts f (take k xs) b d → HaveEnded t amounts f (get_or xs k z ∷ []) d e
         → HaveEnded t amounts f (take (k + 1) xs) b e
     ended_next amounts xs k z l one two
-        = subst (λ ys. HaveEnded t amounts f ys b e) (sym (take_more xs k z l))
-        (ended_then amounts (take k xs) (get_or xs k z) one two)
+        = rw (take_more xs k z l) (ended_then amounts _ _ one two)
 
 -- the whole plan
 module _ {t : Cell ℕ} {a : Arena} (c : Case t a) (plan : Plan) (parts : IsPlan t a plan)
@@ -127,9 +125,9 @@ module _ {t : Cell ℕ} {a : Arena} (c : Case t a) (plan : Plan) (parts : IsPlan
   pub every_number : IsSome (f 0) → ((s : PlannedNode) → Among s plan.planned_nodes.items → IsSome (f s.mask))
       → (q : Cell ℕ) → IsPrefix c q (depth q) → IsSome (f (mask q))
   every_number top planned_nodes q front
-      = elim (has q front (cell_prefix_none q (length t) (prefix_long c q (depth q) front))).spot [
-        | inl flat ↦ subst (λ m. IsSome (f m)) (sym (flat_mask q flat)) top
-        | inr s ↦ subst (λ m. IsSome (f m)) s.2 (planned_nodes s.0 s.1)
+      = elim (has q front (cell_prefix_none q _ (prefix_long c q _ front))).spot [
+        | inl flat ↦ rw (flat_mask q flat) top
+        | inr s ↦ rw (← s.2) (planned_nodes s.0 s.1)
       ]
 
   pub stage_is : IsBegun c b f → IsSome (f 0)
@@ -153,6 +151,6 @@ module _ {t : Cell ℕ} {a : Arena} (c : Case t a) (plan : Plan) (parts : IsPlan
       (λ x m. all_among (λ y. (c : Case t a) → IsEndFor c y) plan.ends.items parts.ends_right x m c) in
       finished c plan has tuple_labels f e keeps r.0 shut
       (λ x m. let h = copied_stays c done.0 done.1 f x q.1 (p.2 x m) in
-      (h.0, h.1, λ i v l. subst (λ es. HasLabel i v es) (sym (r.1 h.0)) (h.2 i v l)))
+      (h.0, h.1, λ i v l. rw (r.1 h.0) (h.2 i v l)))
       (λ x m. set_stays t done.1 e.now f x r.1 (q.2 x m))
       r.2

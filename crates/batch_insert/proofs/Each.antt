@@ -81,7 +81,7 @@ module _ (t : Cell ℕ) (f : ℕ → Option ℕ) (b : Tree ℕ) where
     one_class amounts x k s none number sum here others a c same many stage are =
         let is = are x (inl refl) in
         let r = ended_class c f b stage x is k number d s none (λ whole. sum
-        ∙ sum_is c is.node (length t) amounts x.before whole same many
+        ∙ sum_is c is.node _ amounts x.before whole same many
         (subst (λ o. IsLast c is.node o x.before) none is.last).1) here others in
         (r.0, r.1, one_among (IsEnded c d f) x r.2, r.3)
 
@@ -104,8 +104,7 @@ module _ {t : Cell ℕ} {a : Arena} (c : Case t a) (f : ℕ → Option ℕ) (non
   }
 
   pub flat_prefix : IsPrefix c (replicate a.width None) (depth (replicate {A = Option ℕ} a.width None))
-  flat_prefix = subst (IsPrefix c (replicate a.width None)) (sym (depth-any a.width))
-      (root_prefix c (replicate a.width None) refl)
+  flat_prefix = rw (depth-any a.width) (root_prefix c (replicate a.width None) refl)
 
   module _ (g : ℕ → Option ℕ) (k : ℕ) (more : (q : ℕ) → g q ≡ (if nat_eq 0 q then Some k else f q)) where
     pub top_was : IsOld t a.now 0 k → IsBegun c a.now g
@@ -121,8 +120,7 @@ module _ {t : Cell ℕ} {a : Arena} (c : Case t a) (f : ℕ → Option ℕ) (non
         → IsBegun c d g
     top_new d new free here others =
         begun_new c a.now f g (replicate a.width None) 0 k not_begun (none 0) more flat_prefix
-        (any_mask a.width) d (new_record a.width a.now None) free here others refl
-        (record {
+        (any_mask a.width) d _ free here others refl (record {
           class = refl;
           forced = refl;
           edges = refl;

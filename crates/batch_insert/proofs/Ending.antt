@@ -5,7 +5,7 @@ use Rattle.std.proofs.lemmas.Bool.Decides.{eqb_tells}
 use Rattle.std.specs.Ordering.{eq_by_cmp}
 use Rattle.std.specs.Option.{option_map}
 use Rattle.std.specs.FinMap as map
-use Rattle.cube_defs.specs.Cell.{Cell, depth, leq, mask, with_value}
+use Rattle.cube_defs.specs.Cell.{Cell, leq, mask, with_value}
 use Rattle.cube_defs.specs.Rows as defs
 use Rattle.cube_defs.specs.Tree.{Edge, Tree, cell_at}
 use Rattle.cube_laws.specs.Total.{combine}
@@ -35,8 +35,7 @@ module _ {t : Cell ℕ} {a : Arena} (c : Case t a) where
       (old_closure c p)
       → sum_with (option_map agg_in before) (agg_of_row amounts) ≡ defs.agg (eq_by_cmp nat_cmp) c.measures
       (c.xs ++ c.row ∷ c.ys) p
-  sum_is p i amounts before front same many old = ap (λ o. sum_with o (agg_of_row amounts)) old
-      ∙ go (old_closure c p) refl
+  sum_is p i amounts before front same many old = ap (λ o. sum_with o (agg_of_row amounts)) old ∙ go _ refl
     where
       one : defs.agg_of c.measures (c.row ∷ []) ≡ agg_of_row amounts
       one = ap (λ m. defs.agg_of m (c.row ∷ [])) (many ∙ ap length (sym same)) ∙ agg_of-one c.row ∙ ap agg_of_row same
@@ -62,14 +61,14 @@ module _ {t : Cell ℕ} {a : Arena} (c : Case t a) where
         k,
         done.1,
         h.2 ∙ ap (λ q. Some q) s.1,
-        subst (λ q. map.get d q ≡ Some done.1) (some_same (sym done.2 ∙ number)) done.3,
+        rw (← (some_same (sym done.2 ∙ number))) done.3,
         done.4,
       )
       | inr s ↦ (h.0, h.1, h.2, others h.0 s.1 ∙ h.3, subst (λ g. HasEndOf c g h.1.cell h.1) (sym same) h.4)
     ]
 
     forced_to : (g : ForcedChild) → x.forced ≡ Some g → IsLast c is.node (Some g) x.before
-    forced_to g e = subst (λ o. IsLast c is.node o x.before) e is.last
+    forced_to g e = rw e at is.last
 
     pub ended_forced : (d : Tree ℕ) (g : ForcedChild) (l v : ℕ) → x.forced ≡ Some g → f g.child ≡ Some l
         → slice_index_or t g.dim None ≡ Some v
@@ -83,7 +82,7 @@ module _ {t : Cell ℕ} {a : Arena} (c : Case t a) where
         let after : map.get d k ≡ Some (with_forced (Some edge) n.0)
         = here ∙ ap (option_map (with_forced (Some edge))) n.1 in
         let front = prefix_there c f b stage is.node g.dim n.0 last.0 n.2 in
-        let same = names b d k n.0 (with_forced (Some edge) n.0) n.1 after refl others in
+        let same = names b d k n.0 _ n.1 after refl others in
         let entry = (last.2 v value).0 in
         let done : IsEnded c d f x = (
           k,
@@ -94,18 +93,18 @@ module _ {t : Cell ℕ} {a : Arena} (c : Case t a) where
             g.dim,
             v,
             l,
-            subst (λ p. IsPrefix c p g.dim) (sym n.2) last.0,
+            rw (← n.2) at last.0,
             last.1,
-            subst (λ p. slice_get (new_closure c p) g.dim ≡ Some (Some v)) (sym n.2) entry,
+            rw (← n.2) at entry,
             refl,
             ap (λ h. h l) same ∙ named g l v last.0 last.1 value (last.2 v value).1 child
                 ∙ ap (λ p. Some (with_value p g.dim v)) (sym n.2),
             unmarked n.0 n.2 (stage.sound k n.0 n.1 front) g v last.0 last.1 entry,
           ),
         ) in (
-          staged b d k n.0 (with_forced (Some edge) n.0) n.1 after refl others c f front (λ i w h. h) stage
+          staged b d k n.0 _ n.1 after refl others c f front (λ i w h. h) stage
               (λ s. record { parent = s.parent; rises = s.rises; place = s.place; leads = s.leads; class = s.class }),
-          edges b d k n.0 (with_forced (Some edge) n.0) n.1 after refl others refl,
+          edges b d k n.0 _ n.1 after refl others refl,
           done,
           stays d same others done,
         )
@@ -119,10 +118,10 @@ module _ {t : Cell ℕ} {a : Arena} (c : Case t a) where
             let long : length is.node ≡ length t = prefix_long c is.node g.dim front in
             let low : leq nat_eq is.node t ≡ true = sym (leq_is is.node t)
             ∙ prefix_leq c is.node g.dim front in
-            q.1 ∙ ap (λ p. Some p) (same_mask q.0 (with_value is.node g.dim v) t (sym (leq_is q.0 t)
-            ∙ prefix_leq c q.0 (depth q.0) q.3) (below_with t is.node g.dim v low (prefix_deep c is.node g.dim front)
+            q.1 ∙ ap (λ p. Some p) (same_mask q.0 _ t (sym (leq_is q.0 t)
+            ∙ prefix_leq c q.0 _ q.3) (below_with t is.node g.dim v low (prefix_deep c is.node g.dim front)
             (omega (arith, within, long)) value)
-            (prefix_long c q.0 (depth q.0) q.3 ∙ sym (long_with is.node g.dim v ∙ long)) (q.2 ∙ sym dims))
+            (prefix_long c q.0 _ q.3 ∙ sym (long_with is.node g.dim v ∙ long)) (q.2 ∙ sym dims))
 
         -- a node with a forced child is no class
         unmarked : (n : Known) → n.cell ≡ is.node → IsSound c (cell_at b) n → (g : ForcedChild) (v : ℕ)
@@ -145,16 +144,15 @@ module _ {t : Cell ℕ} {a : Arena} (c : Case t a) where
         → ((q : ℕ) → q ≢ k → map.get d q ≡ map.get b q)
         → IsStage c d f × EdgesStay b d × IsEnded c d f x × ((y : NodeKind) → IsEnded c b f y → IsEnded c d f y)
     ended_class d s none sum here others =
-        let whole : IsPrefix c is.node (length t) = (subst (λ o. IsLast c is.node o x.before) none is.last).0 in
-        let n = held c f b stage is.node (length t) x.mask k whole is.dims number in
+        let whole : IsPrefix c is.node (length t) = (rw none at is.last).0 in
+        let n = held c f b stage is.node _ x.mask k whole is.dims number in
         let m : Known = with_class (Some s) (with_forced None n.0) in
         let after : map.get d k ≡ Some m
         = here ∙ ap (λ o. option_map (with_class (Some s)) (option_map (with_forced None) o)) n.1 in
-        let front = prefix_there c f b stage is.node (length t) n.0 whole n.2 in
+        let front = prefix_there c f b stage is.node _ n.0 whole n.2 in
         let same = names b d k n.0 m n.1 after refl others in
         let own : new_closure c n.0.cell ≡ n.0.cell
-        = subst (λ p. new_closure c p ≡ p) (sym n.2)
-        (prefix_end c is.node (length t) whole (omega arith)) in
+        = rw n.2 (prefix_end c is.node _ whole (omega arith)) in
         let done : IsEnded c d f x
         = (
           k,
@@ -162,10 +160,9 @@ module _ {t : Cell ℕ} {a : Arena} (c : Case t a) where
           number,
           after,
           inl (
-            subst (λ p. IsPrefix c p (length t)) (sym n.2) whole,
+            rw n.2 whole,
             refl,
-            ap (λ z. Some z) (sum whole
-                ∙ ap (defs.agg (eq_by_cmp nat_cmp) c.measures (c.xs ++ c.row ∷ c.ys)) (sym n.2)),
+            ap (λ z. Some z) (sum whole ∙ ap (defs.agg _ c.measures (c.xs ++ c.row ∷ c.ys)) (sym n.2)),
           ),
         ) in (
           staged b d k n.0 m n.1 after refl others c f front (λ i w h. h) stage

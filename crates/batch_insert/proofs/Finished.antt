@@ -39,7 +39,7 @@ use Rattle.batch_insert.proofs.Started.{prefix_of_node, node_of_prefix, record_k
 
 -- edges that rise
 before_of : (x y : Edge ℕ ℕ) → label_lt x y ≡ true → IsBefore x y
-before_of x y h = go (le_or_lt (suc x.dim) y.dim)
+before_of x y h = go (le_or_lt _ y.dim)
   where
     go : (suc x.dim ≤ y.dim) ⊎ (suc y.dim ≤ suc x.dim) → IsBefore x y
     go (inl l) = record { less = inl (omega (arith, l)) }
@@ -49,27 +49,27 @@ all_before : (x : Edge ℕ ℕ) (xs : List (Edge ℕ ℕ)) → list_all (label_l
     → IsBefore x y
 all_before x [] h y m = absurd m
 all_before x (z ∷ xs) h y m =
-    let p = and_parts (label_lt x z) (list_all (label_lt x) xs) h in
-    elim m [ inl s ↦ subst (IsBefore x) (sym s) (before_of x z p.0) | inr n ↦ all_before x xs p.1 y n ]
+    let p = and_parts _ _ h in
+    elim m [ inl s ↦ rw s (before_of x z p.0) | inr n ↦ all_before x xs p.1 y n ]
 
 pub ascending : (xs : List (Edge ℕ ℕ)) → rises xs ≡ true → Ascends xs
 ascending [] h = tt
-ascending (x ∷ xs) h = let p = and_parts (list_all (label_lt x) xs) (rises xs) h in
+ascending (x ∷ xs) h = let p = and_parts _ _ h in
     (all_before x xs p.0, ascending xs p.1)
 
 -- a label stands once
 label_once : (xs : List (Edge ℕ ℕ)) → Ascends xs → (x y : Edge ℕ ℕ) → Among x xs → Among y xs → HasLabelOf x y → x ≡ y
 label_once [] h x y m n s = absurd m
 label_once (z ∷ xs) h x y (inl m) (inl n) s = m ∙ sym n
-label_once (z ∷ xs) h x y (inl m) (inr n) s = absurd (before_apart x y (subst (λ w. IsBefore w y) (sym m) (h.0 y n)) s)
+label_once (z ∷ xs) h x y (inl m) (inr n) s = absurd (before_apart x y (rw m (h.0 y n)) s)
 label_once (z ∷ xs) h x y (inr m) (inl n) s
-    = absurd (before_apart y x (subst (λ w. IsBefore w x) (sym n) (h.0 x m))
+    = absurd (before_apart y x (rw n (h.0 x m))
     (record { dim = sym s.dim; value = sym s.value }))
 label_once (z ∷ xs) h x y (inr m) (inr n) s = label_once xs h.1 x y m n s
 
 pub cell_prefix_none : (c : Cell ℕ) (n : ℕ) → length c ≡ n → cell_prefix zero c ≡ replicate n None
 cell_prefix_none [] zero e = refl
-cell_prefix_none [] (suc n) e = absurd (omega arith)
+cell_prefix_none [] _ e = absurd (omega arith)
 cell_prefix_none (x ∷ c) zero e = absurd (omega arith)
 cell_prefix_none (x ∷ c) (suc n) e = ap (λ d. None ∷ d) (cell_prefix_none c n (omega arith))
 
@@ -88,7 +88,7 @@ module _ {t : Cell ℕ} {a : Arena} (c : Case t a) (plan : Plan)
   module _ (k : ℕ) (n : Known) (h : map.get b.now k ≡ Some n) (front : IsPrefix c n.cell (depth n.cell))
       (number : f (mask n.cell) ≡ Some k) where
     node : HasNode c plan n.cell
-    node = has n.cell front (cell_prefix_none n.cell (length t) (prefix_long c n.cell (depth n.cell) front))
+    node = has n.cell front (cell_prefix_none n.cell _ (prefix_long c n.cell _ front))
 
     sound : IsSound c (cell_at b.now) n
     sound = stage.sound k n h front
@@ -111,9 +111,7 @@ module _ {t : Cell ℕ} {a : Arena} (c : Case t a) (plan : Plan)
         let node : is.node ≡ n.cell
         = prefix_told c is.node n.cell (deep_prefix c is.node y.0.dim is.front) front (is.dims ∙ y.2) in (
           s.1,
-          subst (λ j. Among (record { dim = j; value = v; target = s.1 }) n.edges) y.3
-              (subst (λ w. Among (record { dim = y.0.dim; value = w; target = s.1 }) n.edges) val
-              (subst (λ es. Among (record { dim = y.0.dim; value = s.2; target = s.1 }) es) same s.6)),
+          rw y.3 at (rw val at (rw same at s.6)),
           led s.1 y.0.target s.4 (sym (is.target v (ap (λ j. slice_index_or t j None) y.3 ∙ value))
               ∙ ap (λ j. mask (target_after_row (eq_by_cmp nat_cmp) (old_lead c is.node j v) t j)) y.3
               ∙ ap (λ p. mask (target_after_row (eq_by_cmp nat_cmp) (old_lead c p i v) t i)) node),
@@ -125,28 +123,21 @@ module _ {t : Cell ℕ} {a : Arena} (c : Case t a) (plan : Plan)
             let q = stage.nodes m l target in
             let is : cell_prefix (suc i) (new_closure c (with_value n.cell i v)) ≡ target_after_row (eq_by_cmp nat_cmp)
             (old_lead c n.cell i v) t i
-            = upto-meet_after code_equality (old_closure c (with_value n.cell i v)) t i in
+            = upto-meet_after code_equality _ t i in
             let low : leq (eq_by_cmp nat_cmp) (target_after_row (eq_by_cmp nat_cmp) (old_lead c n.cell i v) t i) t
-            ≡ true = subst (λ w. leq (eq_by_cmp nat_cmp) w t ≡ true) is
-            (leq_trans code_equality (cell_prefix (suc i) (new_closure c (with_value n.cell i v)))
-            (new_closure c (with_value n.cell i v)) t
-            (cell_prefix-leq code_equality (suc i) (new_closure c (with_value n.cell i v)))
+            ≡ true = rw (← is) (leq_trans code_equality _
+            _ t (cell_prefix-leq code_equality _ (new_closure c (with_value n.cell i v)))
             (new_below c (with_value n.cell i v))) in
             let long : length (target_after_row (eq_by_cmp nat_cmp) (old_lead c n.cell i v) t i) ≡ length t
-            = ap length (sym is) ∙ length-cell_prefix (suc i) (new_closure c (with_value n.cell i v))
-            ∙ new_long c (with_value n.cell i v) in
-            q.1
-            ∙ ap (λ w. Some w) (same_mask q.0 (target_after_row (eq_by_cmp nat_cmp) (old_lead c n.cell i v) t i) t
-            (sym (leq_is q.0 t) ∙ prefix_leq c q.0 (depth q.0) q.3)
-            (sym (leq_is (target_after_row (eq_by_cmp nat_cmp) (old_lead c n.cell i v) t i) t) ∙ low)
-            (prefix_long c q.0 (depth q.0) q.3 ∙ sym long) (q.2 ∙ dims))
-            ∙ sym (led_own c n.cell i v place within value)
+            = ap length (sym is) ∙ length-cell_prefix _ _ ∙ new_long c _ in
+            q.1 ∙ ap (λ w. Some w) (same_mask q.0 _ t (sym (leq_is q.0 t) ∙ prefix_leq c q.0 _ q.3) (sym (leq_is _ t) ∙ low)
+            (prefix_long c q.0 _ q.3 ∙ sym long) (q.2 ∙ dims)) ∙ sym (led_own c n.cell i v place within value)
 
     -- the labels with other values
     old_edge : (i v : ℕ) (q : Cell ℕ) → i < length t → IsPrefix c n.cell i → old_lead c n.cell i v ≡ Some q
         → HasLabel i v n.edges
     old_edge i v q within place target_of_label =
-        let w = led_from code_equality (old_closure c (with_value n.cell i v)) i q target_of_label in
+        let w = led_from code_equality _ i q target_of_label in
         let deep = prefix_deep c n.cell i place in
         let u = closure_some code_equality (c.xs ++ c.ys) n.cell (with_value n.cell i v) w.0
         (leq-with_value code_equality n.cell i v deep) w.1 in
@@ -154,25 +145,24 @@ module _ {t : Cell ℕ} {a : Arena} (c : Case t a) (plan : Plan)
           | inl own ↦ own_label u.0 u.1 deep own
           | inr x ↦
               let done = copied x.0 x.1 in
-              let r = cell_record a.now x.0.from.0 (cell_prefix i u.0) x.3 in
-              subst (HasLabel i v) (edges_at done.0 (one_number x.0.mask done.0 x.2 done.1))
-              (done.2 i v (subst (λ (y : Known). HasLabel i v y.edges) (sym (record_known a.now x.0.from.0 r.0 r.1))
+              let r = cell_record a.now x.0.from.0 _ x.3 in
+              rw (← (edges_at done.0 (one_number x.0.mask done.0 x.2 done.1)))
+              (done.2 i v (rw (record_known a.now x.0.from.0 r.0 r.1)
               (source_has c n.cell u.0 i place u.1 x.0.from.0 r.0 r.1 r.2 v q within target_of_label)))
         ]
       where
         own_label : (u : Cell ℕ) → old_closure c n.cell ≡ Some u → depth n.cell ≤ i → cell_prefix i u ≡ n.cell
             → HasLabel i v n.edges
         own_label u e deep own =
-            let there = c.from.canonical.all (cell_prefix i u)
+            let there = c.from.canonical.all _
             (chain_node nat_cmp_total map.nat_cmp-IsAntisymmetric c.measures (c.xs ++ c.ys) n.cell u i e deep).1 in
-            let r = cell_record a.now there.0 (cell_prefix i u) there.1 in
-            let o = cell_record b.now there.0 (cell_prefix i u) (stage.cells there.0 (cell_prefix i u) there.1) in
+            let r = cell_record a.now there.0 _ there.1 in
+            let o = cell_record b.now there.0 _ (stage.cells there.0 (cell_prefix i u) there.1) in
             let told = (stage.below there.0 o.0 o.1 (ap (λ p. leq nat_eq p t) (o.2 ∙ own) ∙ sym (leq_is n.cell t)
             ∙ prefix_leq c n.cell i place)).1 in
-            subst (HasLabel i v) (edges_at there.0 (one_number (mask o.0.cell) there.0 (ap mask (o.2 ∙ own)) told))
-            (stage.stays there.0 i v
-            (subst (λ (y : Known). HasLabel i v y.edges) (sym (record_known a.now there.0 r.0 r.1))
-            (source_has c n.cell u i place e there.0 r.0 r.1 r.2 v q within target_of_label)))
+            rw (edges_at there.0 (one_number (mask o.0.cell) there.0 (ap mask (o.2 ∙ own)) told)) at (stage.stays there.0 i v
+            (rw (← (record_known a.now there.0 r.0 r.1)) at (source_has c n.cell u i place e there.0 r.0 r.1 r.2 v q within
+            target_of_label)))
 
     edges : HasEdges c n.cell front (cell_at b.now) n.edges
     edges = record {
@@ -203,11 +193,11 @@ module _ {t : Cell ℕ} {a : Arena} (c : Case t a) (plan : Plan)
         let x = node.end in
         let e = ended x.0 x.1 in
         let same : e.1 ≡ n = some_same (sym e.3 ∙ ap (map.get b.now) (one_number x.0.mask e.0 x.2 e.2) ∙ h) in
-        subst (λ m. HasEndOf c (cell_at b.now) m.cell m) same e.4
+        rw (← same) e.4
 
     pub record_is : Some (renamed (cell_at b.now) n) ≡ option_map (renamed (λ q. Some q))
         (node_of nat_cmp c.measures (c.xs ++ c.row ∷ c.ys) n.cell)
-    record_is = record_right c n.cell front (cell_at b.now) n refl sound.parent edges end
+    record_is = record_right c n.cell front _ n refl sound.parent edges end
 
   covers_is : (p : Cell ℕ) → defs.covers (eq_by_cmp nat_cmp) p c.row ≡ true → leq nat_eq p t ≡ true
   covers_is p h = sym (leq_is p t) ∙ ap (leq (eq_by_cmp nat_cmp) p) (sym c.tuple) ∙ h
@@ -229,8 +219,8 @@ module _ {t : Cell ℕ} {a : Arena} (c : Case t a) (plan : Plan)
     once = once;
     all = λ p h node.
         let front = prefix_of_node c p (covers_is p h) node in
-        let k = some_there (f (mask p)) (stage.all p front) in
-        let q = stage.nodes (mask p) k.0 k.1 in
+        let k = some_there (f _) (stage.all p front) in
+        let q = stage.nodes _ k.0 k.1 in
         (k.0, q.1 ∙ ap (λ r. Some r) (prefix_told c q.0 p q.3 front q.2));
   }
 

@@ -1,7 +1,7 @@
 -- The labels of the node of a prefix of the old closure are labels of the node with the row, but for those with its
 -- value.
 use Rattle.std.proofs.Common.{cond, ◌≡◌, ◌⊎◌, inl, inr, ℕ, zero, suc, ◌≤◌, ◌<◌, Bool, true, false, Option, Some, None, List, [], ◌∷◌, ◌++◌}
-use Rattle.std.proofs.Common.{map, length, nat_cmp, slice_get, slice_index_or, refl, sym, ap, ap₂, subst, ◌∙◌, arith}
+use Rattle.std.proofs.Common.{map, length, nat_cmp, slice_get, slice_index_or, refl, sym, ap, ap₂, ◌∙◌, arith}
 use Rattle.std.proofs.lemmas.Bool.{cond-true, cond-false, and_from}
 use Rattle.std.specs.List.{list_all}
 use Rattle.std.specs.Cmp.{nat_cmp_total}
@@ -49,8 +49,7 @@ module _ (name : ℕ → Option (Cell ℕ)) where
   all_before x y (w ∷ xs) (z ∷ ys) d v e h =
       let s : renamed_edge name w ≡ renamed_edge (λ c. Some c) z = cc in
       let b : IsBefore x w = record { less = go (h z (inl refl)).less (ap (λ u. u.dim) s) (ap (λ u. u.value) s) } in
-      and_from (label_lt x w) (list_all (label_lt x) xs) (less_label x w b)
-      (all_before x y xs ys d v (cc) (λ u m. h u (inr m)))
+      and_from _ _ (less_label x w b) (all_before x y xs ys d v (cc) (λ u m. h u (inr m)))
     where
       go : (y.dim < z.dim) ⊎ ((y.dim ≡ z.dim) × (y.value < z.value)) → w.dim ≡ z.dim → w.value ≡ z.value
           → (x.dim < w.dim) ⊎ ((x.dim ≡ w.dim) × (x.value < w.value))
@@ -63,7 +62,7 @@ rises_named name [] ys e h = refl
 rises_named name (x ∷ xs) [] e h = cc
 rises_named name (x ∷ xs) (y ∷ ys) e h =
     let s : renamed_edge name x ≡ renamed_edge (λ c. Some c) y = cc in
-    and_from (list_all (label_lt x) xs) (rises xs)
+    and_from _ _
     (all_before name x y xs ys (ap (λ u. u.dim) s) (ap (λ u. u.value) s) (cc) h.0) (rises_named name xs ys (cc) h.1)
 
 module _ {t : Cell ℕ} {a : Arena} (c : Case t a) where
@@ -76,7 +75,7 @@ module _ {t : Cell ℕ} {a : Arena} (c : Case t a) where
       × (new_lead c p i v ≡ old_lead c p i v))
       ⊎ ((leq (eq_by_cmp nat_cmp) (one_value i v) (cell_of c.row.tuple) ≡ true)
       × (new_lead c p i v ≡ Some (target_after_row (eq_by_cmp nat_cmp) (old_lead c p i v) (cell_of c.row.tuple) i)))
-  led p i v f l = go (leq (eq_by_cmp nat_cmp) (one_value i v) (cell_of c.row.tuple)) refl
+  led p i v f l = go _ refl
     where
       whole : new_lead c p i v ≡ cond (leq (eq_by_cmp nat_cmp) (one_value i v) (cell_of c.row.tuple))
           (Some (target_after_row (eq_by_cmp nat_cmp) (old_lead c p i v) (cell_of c.row.tuple) i)) (old_lead c p i v)
@@ -94,8 +93,7 @@ module _ {t : Cell ℕ} {a : Arena} (c : Case t a) where
 
   own_value : (i v : ℕ) → leq (eq_by_cmp nat_cmp) (one_value i v) (cell_of c.row.tuple) ≡ true
       → slice_index_or t i None ≡ Some v
-  own_value i v h = entry_at t i v (ap (λ x. slice_get x i) (sym c.tuple)
-      ∙ (one_value-leq code_equality i v (cell_of c.row.tuple)).0 h)
+  own_value i v h = entry_at t i v (ap (λ x. slice_get x i) (sym c.tuple) ∙ (one_value-leq code_equality i v _).0 h)
 
   pub led_or_own : (p : Cell ℕ) (i v : ℕ) → IsPrefix c p i → i < length t → (new_lead c p i v ≡ old_lead c p i v)
       ⊎ (slice_index_or t i None ≡ Some v)
@@ -105,8 +103,7 @@ module _ {t : Cell ℕ} {a : Arena} (c : Case t a) where
       → new_lead c p i v ≡ Some (target_after_row (eq_by_cmp nat_cmp) (old_lead c p i v) t i)
   led_own p i v f l e = elim (led p i v f l) [
     | inl h ↦ absurd (bad (sym h.0
-        ∙ (one_value-leq code_equality i v (cell_of c.row.tuple)).1 (ap (λ x. slice_get x i) c.tuple
-        ∙ entry_is t i v e)))
+        ∙ (one_value-leq code_equality i v _).1 (ap (λ x. slice_get x i) c.tuple ∙ entry_is t i v e)))
     | inr h ↦ h.1 ∙ ap (λ x. Some (target_after_row (eq_by_cmp nat_cmp) (old_lead c p i v) x i)) c.tuple
   ]
     where
@@ -137,7 +134,7 @@ module _ {t : Cell ℕ} {a : Arena} (c : Case t a) where
     source_lead : (j v : ℕ) → depth (cell_prefix i u) ≤ j → j ≤ next_value nat_cmp (depth (cell_prefix i u)) u
         → j < length t → target_of_label (eq_by_cmp nat_cmp) (c.xs ++ c.ys) (cell_prefix i u) j v ≡ old_lead c p j v
     source_lead j v d l w =
-        let same : cell_prefix j u ≡ cell_prefix i u = cell_prefix-between nat_cmp (depth (cell_prefix i u)) j u d l
+        let same : cell_prefix j u ≡ cell_prefix i u = cell_prefix-between nat_cmp _ j u d l
         ∙ cell_prefix-depth_cell_prefix i u in
         let f = source_place j d l in
         ap (λ q. target_of_label (eq_by_cmp nat_cmp) (c.xs ++ c.ys) q j v) (sym same)
@@ -148,15 +145,12 @@ module _ {t : Cell ℕ} {a : Arena} (c : Case t a) where
       pub read : renamed (cell_at a.now) n ≡ renamed (λ x. Some x)
           (record_of nat_cmp c.measures (c.xs ++ c.ys) (cell_prefix i u) u)
       read =
-          subst (λ q. renamed (cell_at a.now) n ≡ renamed (λ x. Some x)
-          (record_of nat_cmp c.measures (c.xs ++ c.ys) q u)) cell
-          (record_read nat_cmp_total finmap.nat_cmp-IsAntisymmetric a.width c.measures
-          (c.xs ++ c.ys) c.from.wide a.now c.from.canonical k n u g
-          (ap (defs.closure (eq_by_cmp nat_cmp) (c.xs ++ c.ys)) cell ∙ is))
+          rw (← cell) (record_read nat_cmp_total finmap.nat_cmp-IsAntisymmetric a.width c.measures
+          (c.xs ++ c.ys) c.from.wide a.now c.from.canonical k n u g (ap (defs.closure _ (c.xs ++ c.ys)) cell ∙ is))
 
       pub source_rises : rises n.edges ≡ true
       source_rises =
-          rises_named (cell_at a.now) n.edges (record_of nat_cmp c.measures (c.xs ++ c.ys) (cell_prefix i u) u).edges
+          rises_named _ n.edges (record_of nat_cmp c.measures (c.xs ++ c.ys) (cell_prefix i u) u).edges
           (ap (λ m. m.edges) read)
           (rises_ascends _ (edges_rise nat_cmp_total finmap.nat_cmp-IsAntisymmetric c.measures (c.xs ++ c.ys)
           (cell_prefix i u) u (next_value nat_cmp (depth (cell_prefix i u)) u)))
@@ -172,15 +166,14 @@ module _ {t : Cell ℕ} {a : Arena} (c : Case t a) where
           let y : (y : Edge ℕ (Cell ℕ)) × Among y m.edges
           × (renamed_edge (cell_at a.now) x ≡ renamed_edge (λ c. Some c) y)
           = among_map (renamed_edge (λ c. Some c)) (renamed_edge (cell_at a.now) x) m.edges
-          (subst (λ zs. Among (renamed_edge (cell_at a.now) x) zs) (ap (λ z. z.edges) read)
-          (map_among (renamed_edge (cell_at a.now)) x n.edges h)) in
+          (rw (← (ap (λ z. z.edges) read)) (map_among (renamed_edge (cell_at a.now)) x n.edges h)) in
           let l = (edges-are nat_cmp_total finmap.nat_cmp-IsAntisymmetric c.measures (c.xs ++ c.ys)
           (cell_prefix i u) u is (cell_prefix-depth_cell_prefix i u) y.0).0 y.1 in
           let d : x.dim ≡ y.0.dim = ap (λ z. z.dim) y.2 in
           let v : x.value ≡ y.0.value = ap (λ z. z.value) y.2 in
           let w : y.0.dim < length t = omega (arith, l.place.within, long) in (
             omega (arith, d, w),
-            subst (IsPrefix c p) (sym d) (source_place y.0.dim l.place.behind l.place.before),
+            rw d (source_place y.0.dim l.place.behind l.place.before),
             y.0.target,
             ap (λ z. z.target) y.2,
             ap₂ (old_lead c p) d v ∙ sym (source_lead y.0.dim y.0.value l.place.behind l.place.before w) ∙ l.leads,
@@ -204,7 +197,5 @@ module _ {t : Cell ℕ} {a : Arena} (c : Case t a) where
           × (renamed_edge (λ c. Some c) (record { dim = i; value = v; target = q })
           ≡ renamed_edge (cell_at a.now) y)
           = among_map (renamed_edge (cell_at a.now))
-          (renamed_edge (λ c. Some c) (record { dim = i; value = v; target = q })) n.edges
-          (subst (λ zs. Among (renamed_edge (λ c. Some c) (record { dim = i; value = v; target = q })) zs)
-          (sym (ap (λ z. z.edges) read)) (map_among (renamed_edge (λ c. Some c)) _ m.edges there)) in
+          _ n.edges (rw (ap (λ z. z.edges) read) (map_among _ _ m.edges there)) in
           (y.0, y.1, ap (λ z. z.dim) (sym y.2), ap (λ z. z.value) (sym y.2))

@@ -1,7 +1,7 @@
 -- Masks of what cells that generalize a tuple, and a node and the tuple, have in common.
 use Rattle.std.proofs.Common.{◌≡◌, ◌≢◌, ℕ, zero, suc, ◌+◌, ◌*◌, ◌-◌, ◌^◌, ◌%◌, ◌/◌, ◌≤◌, ◌<◌, All, Bool, true, false, ◌&&◌, Option, Some}
 use Rattle.std.proofs.Common.{None, [], ◌∷◌, is_some, length, nat_eq, slice_get, slice_index_or, replicate, if◌then◌else◌, refl, sym, ap}
-use Rattle.std.proofs.Common.{ap₂, subst, ◌∙◌, true≢false, arith, pow_mono, pow-suc}
+use Rattle.std.proofs.Common.{ap₂, ◌∙◌, true≢false, arith, pow_mono, pow-suc}
 use Rattle.std.proofs.lemmas.Bool.{and_parts, cond-true, cond-false, false_from_ne_true}
 use Rattle.cube_defs.specs.Cell.{Cell, depth, entry_leq, entry_meet, cell_prefix, leq, mask, meet, depth_with, upto, with_value}
 use Rattle.cube_laws.proofs.CallerLemmas.{nat_equality, cell_prefix-depth, cell_prefix_zero}
@@ -35,12 +35,11 @@ part_of [] (e ∷ p) h l = absurd (omega arith)
 part_of (f ∷ t) [] h l = absurd (omega arith)
 part_of (f ∷ t) (None ∷ p) h l =
     let half : (2 * mask p) / 2 ≡ mask p = omega arith in
-    ap₂ (λ x y. x ∷ y) (cond-false _ f None (even (mask p))) (ap (part t) half ∙ part_of t p h (omega arith))
+    ap₂ (λ x y. x ∷ y) (cond-false _ f None (even _)) (ap (part t) half ∙ part_of t p h (omega arith))
 part_of (f ∷ t) (Some v ∷ p) h l =
     let half : (2 * mask p + 1) / 2 ≡ mask p = omega arith in
-    let b = and_parts (entry_leq nat_eq (Some v) f) (leq nat_eq p t) h in
-    ap₂ (λ x y. x ∷ y) (cond-true _ f None (odd (mask p)) ∙ one f b.0) (ap (part t) half
-    ∙ part_of t p b.1 (omega arith))
+    let b = and_parts _ _ h in
+    ap₂ (λ x y. x ∷ y) (cond-true _ f None (odd _) ∙ one f b.0) (ap (part t) half ∙ part_of t p b.1 (omega arith))
   where
     one : (f : Option ℕ) → entry_leq nat_eq (Some v) f ≡ true → f ≡ Some v
     one None k = absurd (true≢false (sym k))
@@ -57,19 +56,19 @@ mask_small (Some v ∷ c) = let h = mask_small c in rw pow-suc (omega arith)
 
 pub mask_fits : (c : Cell ℕ) (n : ℕ) → length c ≡ n → n ≤ 16 → mask c < 65536
 mask_fits c n e h = let p : 2 ^ n ≤ 2 ^ 16 = pow_mono h in let q : mask c < 2 ^ n
-    = subst (λ k. mask c < 2 ^ k) e (mask_small c) in omega arith
+    = rw (← e) (mask_small c) in omega arith
 
 shallow : (e : Option ℕ) (d i : ℕ) → depth_with e d ≤ suc i → d ≤ i
 shallow None zero i h = omega arith
-shallow None (suc d) i h = omega (arith, h)
-shallow (Some v) d i h = omega (arith, h)
+shallow None _ i h = omega (arith, h)
+shallow _ d i h = omega (arith, h)
 
 -- one value more
 pub mask_with : (p : Cell ℕ) (i v : ℕ) → depth p ≤ i → i < length p → mask (with_value p i v) ≡ mask p + 2 ^ i
 mask_with [] i v d l = absurd (omega arith)
 mask_with (None ∷ p) zero v d l = refl
-mask_with (Some w ∷ p) zero v d l = absurd (omega (arith, d))
-mask_with (None ∷ p) (suc i) v d l = let h = mask_with p i v (shallow None (depth p) i d) (omega arith) in
+mask_with _ zero v d l = absurd (omega (arith, d))
+mask_with (None ∷ p) (suc i) v d l = let h = mask_with p i v (shallow None _ i d) (omega arith) in
     rw pow-suc (omega arith)
 mask_with (Some w ∷ p) (suc i) v d l = let h = mask_with p i v (shallow (Some w) (depth p) i d) (omega arith) in
     rw pow-suc (omega arith)
@@ -105,7 +104,7 @@ entry_bit (Some v) = 1
 
 mask_cons : (e : Option ℕ) (c : Cell ℕ) → mask (e ∷ c) ≡ 2 * mask c + entry_bit e
 mask_cons None c = omega arith
-mask_cons (Some v) c = refl
+mask_cons _ c = refl
 
 met_bit : (v : ℕ) (f : Option ℕ)
     → entry_bit (entry_meet nat_eq (Some v) f) ≡ (if entry_leq nat_eq (Some v) f then 2 ^ 0 else 0)
@@ -122,8 +121,8 @@ twice false j = refl
 
 deeper : (e : Option ℕ) (d j : ℕ) → depth_with e d ≡ suc (suc j) → d ≡ suc j
 deeper None zero j h = cc
-deeper None (suc d) j h = omega (arith, h)
-deeper (Some v) d j h = omega (arith, h)
+deeper None _ j h = omega (arith, h)
+deeper _ d j h = omega (arith, h)
 
 bare : (x : Cell ℕ) (v : ℕ) → depth_with (Some v) (depth x) ≡ 1 → cell_prefix 0 x ≡ x
 bare x v h = let d : 0 ≡ depth x = omega (arith, h) in ap (λ n. cell_prefix n x) d ∙ cell_prefix-depth x
@@ -158,8 +157,8 @@ last_leq (e ∷ x) (f ∷ t) zero v d g l =
     let b = bare x v (ap (λ o. depth_with o (depth x)) (sym is) ∙ d) in
     ap₂ (λ o y. entry_leq nat_eq o f && leq nat_eq y t) is (sym b)
 last_leq (e ∷ x) (f ∷ t) (suc j) v d g l =
-    ap (λ b. entry_leq nat_eq e f && b) (last_leq x t j v (deeper e (depth x) j d) g (omega arith))
-    ∙ swap (entry_leq nat_eq e f) (agrees t j v) (leq nat_eq (cell_prefix j x) t)
+    ap (λ b. entry_leq nat_eq e f && b) (last_leq x t j v (deeper e _ j d) g (omega arith))
+    ∙ swap (entry_leq nat_eq e f) (agrees t j v) _
   where
     swap : (a b c : Bool) → (a && (b && c)) ≡ (b && (a && c))
     swap true b c = refl
@@ -188,9 +187,9 @@ apart_at c d i v w e f o = false_from_ne_true _ (λ h. o (same c d i e f h))
     same [] d i e f h = cc
     same (x ∷ c) [] i e f h = cc
     same (x ∷ c) (y ∷ d) zero e f h =
-        let b = and_parts (entry_leq nat_eq x y) (leq nat_eq c d) h in
+        let b = and_parts _ _ h in
         nat_equality.exact w v (sym (ap₂ (entry_leq nat_eq) (some_same e) (some_same f)) ∙ b.0)
-    same (x ∷ c) (y ∷ d) (suc i) e f h = same c d i e f (and_parts (entry_leq nat_eq x y) (leq nat_eq c d) h).1
+    same (x ∷ c) (y ∷ d) (suc i) e f h = same c d i e f (and_parts _ _ h).1
 
 -- the child with one value more
 module _ (t : Cell ℕ) (m i v x : ℕ) (d : depth (part t m) ≤ i) (l : i < length t)
@@ -209,9 +208,9 @@ module _ (t : Cell ℕ) (m i v x : ℕ) (d : depth (part t m) ≤ i) (l : i < le
 -- the root has no values
 pub flat_mask : (p : Cell ℕ) → depth p ≡ 0 → mask p ≡ 0
 flat_mask [] h = refl
-flat_mask (None ∷ p) h = let e = flat_mask p (shallow (depth p) h) in omega arith
+flat_mask (None ∷ p) h = let e = flat_mask p (shallow _ h) in omega arith
   where
     shallow : (n : ℕ) → depth_with {A = ℕ} None n ≡ 0 → n ≡ 0
     shallow zero h = refl
-    shallow (suc n) h = absurd (omega (arith, h))
-flat_mask (Some v ∷ p) h = absurd (omega (arith, h))
+    shallow _ h = absurd (omega (arith, h))
+flat_mask _ h = absurd (omega (arith, h))

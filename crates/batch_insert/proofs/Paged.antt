@@ -38,7 +38,7 @@ module _ (pages : List (Vec (Option NodeNo))) (page : Vec (Option NodeNo)) (m : 
 
   wide : m % 64 < length page.items
   wide = let r : 64 ≤ length page.items
-      = subst (λ o. IfSome o (λ (places : Vec (Option NodeNo)). 64 ≤ length places.items)) at room in omega (arith, r)
+      = rw at at room in omega (arith, r)
 
   abbrev pub new : Vec (Option NodeNo)
   new = with_item page (m % 64) (Some k)
@@ -49,14 +49,14 @@ module _ (pages : List (Vec (Option NodeNo))) (page : Vec (Option NodeNo)) (m : 
         let q : m % 64 ≢ n % 64 = λ f. h (let p = e.1 in omega (arith, p, f)) in
         subst (λ p. in_pages (set pages (m / 64) new) p (n % 64) ≡ in_pages pages p (n % 64)) e.1
         (ap (option_and_then (in_page (n % 64))) (set_there pages (m / 64) new there)
-        ∙ ap (option_and_then (option_map number)) (set_beside page.items (m % 64) (n % 64) (Some k) q)
+        ∙ ap (option_and_then (option_map number)) (set_beside page.items (m % 64) (n % 64) _ q)
         ∙ sym (ap (option_and_then (in_page (n % 64))) at))
     | inr e ↦ ap (option_and_then (in_page (n % 64))) (set_beside pages (m / 64) (n / 64) new e.1)
   ]
 
   here : in_pages (set pages (m / 64) new) (m / 64) (m % 64) ≡ Some k.0
   here = ap (option_and_then (in_page (m % 64))) (set_there pages (m / 64) new there)
-      ∙ ap (option_and_then (option_map number)) (set_there page.items (m % 64) (Some k) wide)
+      ∙ ap (option_and_then (option_map number)) (set_there page.items (m % 64) _ wide)
 
   pub noted : (n : ℕ) → in_pages (set pages (m / 64) new) (n / 64) (n % 64) ≡ (if nat_eq m n then Some k.0
       else in_pages pages (n / 64) (n % 64))

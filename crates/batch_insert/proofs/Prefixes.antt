@@ -31,7 +31,7 @@ past u i l e = none_some (sym e ∙ (item_at u i l).1)
 
 module _ {t : Cell ℕ} {a : Arena} (c : Case t a) where
   pub old_long : (p u : Cell ℕ) → old_closure c p ≡ Some u → length u ≡ length t
-  old_long p u e = closure_length (eq_by_cmp nat_cmp) a.width p u (c.xs ++ c.ys) c.from.wide e ∙ sym c.wide
+  old_long p u e = closure_length _ a.width p u (c.xs ++ c.ys) c.from.wide e ∙ sym c.wide
 
   met_long : (o : Option (Cell ℕ)) → ((u : Cell ℕ) → o ≡ Some u → length u ≡ length t)
       → length (meet_after (eq_by_cmp nat_cmp) t o) ≡ length t
@@ -42,27 +42,25 @@ module _ {t : Cell ℕ} {a : Arena} (c : Case t a) where
   new_long p = met_long (old_closure c p) (λ u e. old_long p u e)
 
   pub new_below : (p : Cell ℕ) → leq (eq_by_cmp nat_cmp) (new_closure c p) t ≡ true
-  new_below p = meet_after_below code_equality t (old_closure c p)
+  new_below p = meet_after_below code_equality t _
 
   pub prefix_long : (p : Cell ℕ) (i : ℕ) → IsPrefix c p i → length p ≡ length t
-  prefix_long p i h = ap length (sym h) ∙ length-cell_prefix i (new_closure c p) ∙ new_long p
+  prefix_long p i h = ap length (sym h) ∙ length-cell_prefix i _ ∙ new_long p
 
   pub prefix_leq : (p : Cell ℕ) (i : ℕ) → IsPrefix c p i → leq (eq_by_cmp nat_cmp) p t ≡ true
-  prefix_leq p i h = leq_trans code_equality p (new_closure c p) t
-      (subst (λ x. leq (eq_by_cmp nat_cmp) x (new_closure c p) ≡ true) h
-      (cell_prefix-leq code_equality i (new_closure c p))) (new_below p)
+  prefix_leq p i h = leq_trans code_equality p _ t
+      (rw h at (cell_prefix-leq code_equality i (new_closure c p))) (new_below p)
 
   pub prefix_deep : (p : Cell ℕ) (i : ℕ) → IsPrefix c p i → depth p ≤ i
-  prefix_deep p i h = subst (λ x. depth x ≤ i) h (depth-cell_prefix-le i (new_closure c p))
+  prefix_deep p i h = rw (← h) (depth-cell_prefix-le i _)
 
   -- what is a prefix before a dimension is one before each between
   pub prefix_before : (p : Cell ℕ) (j i : ℕ) → j ≤ i → depth p ≤ j → IsPrefix c p i → IsPrefix c p j
-  prefix_before p j i h d f = sym (cell_prefix-cell_prefix j i (new_closure c p) h) ∙ ap (cell_prefix j) f
-      ∙ cell_prefix-beyond j p d
+  prefix_before p j i h d f = sym (cell_prefix-cell_prefix j i _ h) ∙ ap (cell_prefix j) f ∙ cell_prefix-beyond j p d
 
   pub above_self : (p : Cell ℕ) → leq (eq_by_cmp nat_cmp) p t ≡ true
       → leq (eq_by_cmp nat_cmp) p (new_closure c p) ≡ true
-  above_self p h = go (old_closure c p) (λ u e. leq-closure code_equality (c.xs ++ c.ys) p u e)
+  above_self p h = go _ (λ u e. leq-closure code_equality (c.xs ++ c.ys) p u e)
     where
       go : (o : Option (Cell ℕ)) → ((u : Cell ℕ) → o ≡ Some u → leq (eq_by_cmp nat_cmp) p u ≡ true)
           → leq (eq_by_cmp nat_cmp) p (meet_after (eq_by_cmp nat_cmp) t o) ≡ true
@@ -71,7 +69,7 @@ module _ {t : Cell ℕ} {a : Arena} (c : Case t a) where
 
   pub closure_rises : (p q : Cell ℕ) → leq (eq_by_cmp nat_cmp) p q ≡ true
       → leq (eq_by_cmp nat_cmp) (new_closure c p) (new_closure c q) ≡ true
-  closure_rises p q h = go (old_closure c q) refl
+  closure_rises p q h = go _ refl
     where
       go : (o : Option (Cell ℕ)) → old_closure c q ≡ o
           → leq (eq_by_cmp nat_cmp) (new_closure c p) (meet_after (eq_by_cmp nat_cmp) t o) ≡ true
@@ -79,11 +77,11 @@ module _ {t : Cell ℕ} {a : Arena} (c : Case t a) where
       go (Some w) e =
           let u = closure_some code_equality (c.xs ++ c.ys) p q w h e in
           meet_great code_equality (new_closure c p) t w (new_below p)
-          (leq_trans code_equality (new_closure c p) u.0 w (meet_after_rest code_equality t (old_closure c p) u.0 u.1)
+          (leq_trans code_equality _ u.0 w (meet_after_rest code_equality t _ u.0 u.1)
           (closure_mono code_equality (c.xs ++ c.ys) p q u.0 w h u.1 e))
 
   pub deep_prefix : (p : Cell ℕ) (i : ℕ) → IsPrefix c p i → IsPrefix c p (depth p)
-  deep_prefix p i f = prefix_before p (depth p) i (prefix_deep p i f) (omega arith) f
+  deep_prefix p i f = prefix_before p _ i (prefix_deep p i f) (omega arith) f
 
   -- the closure of a closure
   closure_again : (p : Cell ℕ) → leq (eq_by_cmp nat_cmp) (new_closure c (new_closure c p)) (new_closure c p) ≡ true
@@ -92,10 +90,9 @@ module _ {t : Cell ℕ} {a : Arena} (c : Case t a) where
       go : (o : Option (Cell ℕ)) → old_closure c p ≡ o
           → leq (eq_by_cmp nat_cmp) (new_closure c (new_closure c p)) (new_closure c p) ≡ true
       go None e = subst (λ x. leq (eq_by_cmp nat_cmp) (new_closure c (new_closure c p)) x ≡ true)
-          (sym (ap (meet_after (eq_by_cmp nat_cmp) t) e)) (new_below (new_closure c p))
-      go (Some u) e = subst (λ x. leq (eq_by_cmp nat_cmp) (new_closure c (new_closure c p)) x ≡ true)
-          (ap (meet_after (eq_by_cmp nat_cmp) t) (closure_idem code_equality (c.xs ++ c.ys) p u e ∙ sym e))
-          (closure_rises (new_closure c p) u (meet_after_rest code_equality t (old_closure c p) u e))
+          (sym (ap (meet_after (eq_by_cmp nat_cmp) t) e)) (new_below _)
+      go (Some u) e = rw (ap (meet_after (eq_by_cmp nat_cmp) t) (closure_idem code_equality (c.xs ++ c.ys) p u e ∙ sym e)) at
+          (closure_rises _ u (meet_after_rest code_equality t _ u e))
 
   -- a prefix of a closure is a node
   pub closure_prefix : (p : Cell ℕ) (i : ℕ) → IsPrefix c (cell_prefix i (new_closure c p)) i
@@ -109,35 +106,32 @@ module _ {t : Cell ℕ} {a : Arena} (c : Case t a) where
       = cell_prefix_mono code_equality i _ _
       (leq_trans code_equality (new_closure c q) (new_closure c n) n (closure_rises q n less) (closure_again p)) in
       leq_antisymm code_equality _ _ down
-      (subst (λ x. leq (eq_by_cmp nat_cmp) x (cell_prefix i (new_closure c q)) ≡ true)
-      (cell_prefix-cell_prefix i i n (omega arith)) up)
+      (rw (cell_prefix-cell_prefix i i n (omega arith)) at up)
 
   -- the target of a label with the row's value
   pub target_prefix : (p : Cell ℕ) (i v : ℕ)
       → IsPrefix c (target_after_row (eq_by_cmp nat_cmp) (old_lead c p i v) t i) (suc i)
-  target_prefix p i v = subst (λ x. IsPrefix c x (suc i))
-      (upto-meet_after code_equality (old_closure c (with_value p i v)) t i) (closure_prefix (with_value p i v) (suc i))
+  target_prefix p i v = rw (← (upto-meet_after code_equality _ t i)) (closure_prefix _ _)
 
   -- the child in the dimension of the closure's next value
   pub next_prefix : (p : Cell ℕ) (i v : ℕ) → IsPrefix c p i → slice_get (new_closure c p) i ≡ Some (Some v)
       → IsPrefix c (with_value p i v) (suc i)
-  next_prefix p i v f e = subst (λ x. IsPrefix c x (suc i))
-      (upto-entry (new_closure c p) i v e ∙ ap (λ x. with_value x i v) f) (closure_prefix p (suc i))
+  next_prefix p i v f e = rw (← (upto-entry _ i v e ∙ ap (λ x. with_value x i v) f)) (closure_prefix p _)
 
   -- a node with a value more
   pub child_prefix : (p : Cell ℕ) (i v : ℕ)
       → (target_after_row (eq_by_cmp nat_cmp) (old_lead c p i v) t i ≡ with_value p i v)
       → IsPrefix c (with_value p i v) (suc i)
-  child_prefix p i v h = upto-meet_after code_equality (old_closure c (with_value p i v)) t i ∙ h
+  child_prefix p i v h = upto-meet_after code_equality _ t i ∙ h
 
   pub child_back : (p : Cell ℕ) (i v : ℕ) → IsPrefix c (with_value p i v) (suc i)
       → target_after_row (eq_by_cmp nat_cmp) (old_lead c p i v) t i ≡ with_value p i v
-  child_back p i v h = sym (upto-meet_after code_equality (old_closure c (with_value p i v)) t i) ∙ h
+  child_back p i v h = sym (upto-meet_after code_equality _ t i) ∙ h
 
   -- one dimension on, where the closure has no value there
   pub prefix_on : (p : Cell ℕ) (i : ℕ) → IsPrefix c p i → slice_get (new_closure c p) i ≡ Some None
       → IsPrefix c p (suc i)
-  prefix_on p i h e = upto-none (new_closure c p) i e ∙ h
+  prefix_on p i h e = upto-none _ i e ∙ h
 
   pub prefix_end : (p : Cell ℕ) (i : ℕ) → IsPrefix c p i → length t ≤ i → new_closure c p ≡ p
   prefix_end p i h l = sym (cell_prefix-beyond i (new_closure c p) (let d = depth-le (new_closure c p) in
@@ -159,26 +153,25 @@ module _ {t : Cell ℕ} {a : Arena} (c : Case t a) where
       let same : cell_prefix i (new_closure c q) ≡ cell_prefix i q
       = sym (cell_prefix-cell_prefix i (depth q) (new_closure c q) h) ∙ ap (cell_prefix i) f in
       leq_antisymm code_equality _ _
-      (subst (λ x. leq (eq_by_cmp nat_cmp) (cell_prefix i (new_closure c (cell_prefix i q))) x ≡ true) same down)
-      (subst (λ x. leq (eq_by_cmp nat_cmp) x (cell_prefix i (new_closure c (cell_prefix i q))) ≡ true)
-      (cell_prefix-cell_prefix i i q (omega arith)) up)
+      (rw same at down)
+      (rw (cell_prefix-cell_prefix i i q (omega arith)) at up)
 
   -- a node whose prefix before i is p, and p's forced child stands in i: it is p
   pub node_last : (p q : Cell ℕ) (i v : ℕ) → IsPrefix c p i → i < length t
       → slice_get (new_closure c p) i ≡ Some (Some v) → IsPrefix c q (depth q) → cell_prefix (suc i) q ≡ p → q ≡ p
-  node_last p q i v fp l e fq k = go (le_or_lt (depth q) (suc i))
+  node_last p q i v fp l e fq k = go (le_or_lt _ _)
     where
       go : ((depth q ≤ suc i) ⊎ (suc (suc i) ≤ depth q)) → q ≡ p
-      go (inl h) = sym (cell_prefix-beyond (suc i) q h) ∙ k
+      go (inl h) = sym (cell_prefix-beyond _ q h) ∙ k
       go (inr h) =
           let above : leq (eq_by_cmp nat_cmp) p q ≡ true
-          = subst (λ x. leq (eq_by_cmp nat_cmp) x q ≡ true) k (cell_prefix-leq code_equality (suc i) q) in
+          = rw (← k) (cell_prefix-leq code_equality _ q) in
           let there : slice_get (new_closure c q) i ≡ Some (Some v)
-          = value_above code_equality (new_closure c p) (new_closure c q) i v (closure_rises p q above) e in
+          = value_above code_equality _ _ i v (closure_rises p q above) e in
           let there : slice_get q i ≡ Some (Some v) = ap (λ x. slice_get x i) (sym fq)
-          ∙ get-cell_prefix i (depth q) (new_closure c q) (omega (arith, h)) ∙ there in
+          ∙ get-cell_prefix i _ _ (omega (arith, h)) ∙ there in
           let here : slice_get p i ≡ Some (Some v) = ap (λ x. slice_get x i) (sym k)
-          ∙ get-cell_prefix i (suc i) q (omega arith) ∙ there in
+          ∙ get-cell_prefix i _ q (omega arith) ∙ there in
           let none : slice_get p i ≡ Some None
           = any_after p i (prefix_deep p i fp) (omega (arith, prefix_long p i fp, l)) in
           absurd (not_any (sym here ∙ none))
@@ -191,7 +184,7 @@ module _ {t : Cell ℕ} {a : Arena} (c : Case t a) where
   branch p q i v l e f k = go (slice_get q i) refl
     where
       long : length q ≡ length t
-      long = prefix_long q (depth q) f
+      long = prefix_long q _ f
 
       go : (o : Option (Option ℕ)) → slice_get q i ≡ o → (cell_prefix (suc i) q ≡ p)
           ⊎ ((cell_prefix (suc i) q ≡ with_value p i v) × IsPrefix c (with_value p i v) (suc i))
@@ -202,7 +195,7 @@ module _ {t : Cell ℕ} {a : Arena} (c : Case t a) where
           let same : w ≡ v = let z : Some (Some w) ≡ Some (Some v) = sym is ∙ e in cc in
           let cut : cell_prefix (suc i) q ≡ with_value p i v = upto-entry q i w h
           ∙ ap₂ (λ x y. with_value x i y) k same in
-          inr (cut, subst (λ x. IsPrefix c x (suc i)) cut (node_prefix q (suc i) (deep (le_or_lt (depth q) i) h) f))
+          inr (cut, rw (← cut) (node_prefix q (suc i) (deep (le_or_lt (depth q) i) h) f))
         where
           deep : ((depth q ≤ i) ⊎ (suc i ≤ depth q)) → slice_get q i ≡ Some (Some w) → suc i ≤ depth q
           deep (inl d) h = absurd (not_any (sym h ∙ any_after q i d (omega (arith, l, long))))

@@ -34,18 +34,18 @@ label_put e xs i v h = elim (put_stays e xs h.0 h.1) [
 
 labels_put : (es xs : List (Edge ℕ ℕ)) (i v : ℕ) → HasLabel i v xs → HasLabel i v (put_edges es xs)
 labels_put [] xs i v h = h
-labels_put (e ∷ es) xs i v h = labels_put es (put_edge e xs) i v (label_put e xs i v h)
+labels_put (e ∷ es) xs i v h = labels_put es _ i v (label_put e xs i v h)
 
 labels_here : (es xs : List (Edge ℕ ℕ)) (i v : ℕ) → HasLabel i v es → HasLabel i v (put_edges es xs)
 labels_here [] xs i v h = absurd h.1
 labels_here (e ∷ es) xs i v h = elim h.1 [
-  | inl s ↦ labels_put es (put_edge e xs) i v (
+  | inl s ↦ labels_put es _ i v (
     e,
     put_here e xs,
     ap (λ y. y.dim) (sym s) ∙ h.2,
     ap (λ y. y.value) (sym s) ∙ h.3,
   )
-  | inr m ↦ labels_here es (put_edge e xs) i v (h.0, m, h.2, h.3)
+  | inr m ↦ labels_here es _ i v (h.0, m, h.2, h.3)
 ]
 
 -- one record changes, but for its cell
@@ -63,9 +63,8 @@ module _ (b d : Tree ℕ) (k : ℕ) (n m : Known) (before : map.get b k ≡ Some
 
   pub labels : ((i v : ℕ) → HasLabel i v n.edges → HasLabel i v m.edges) → LabelsStay b d
   labels more q i v h = elim (eqb_tells q k) [
-    | inl s ↦ subst (λ (r : Known). HasLabel i v r.edges) (sym (ap (record_at d) s.1 ∙ record_known d k m after))
-        (more i v (subst (λ (r : Known). HasLabel i v r.edges) (ap (record_at b) s.1 ∙ record_known b k n before) h))
-    | inr s ↦ subst (λ (r : Known). HasLabel i v r.edges) (ap record_or (sym (others q s.1))) h
+    | inl s ↦ rw (ap (record_at d) s.1 ∙ record_known d k m after) (more i v (rw (← (ap (record_at b) s.1 ∙ record_known b k n before)) h))
+    | inr s ↦ rw (← (ap record_or (sym (others q s.1)))) h
   ]
 
   pub edges : m.edges ≡ n.edges → EdgesStay b d
@@ -86,22 +85,21 @@ module _ (b d : Tree ℕ) (k : ℕ) (n m : Known) (before : map.get b k ≡ Some
       cells = λ l p h. name l ∙ stage.cells l p h;
       apart = apart;
       stays = λ l i v h. labels more l i v (stage.stays l i v h);
-      sound = λ l r h e. subst (λ g. IsSound c g r) (sym names) (sound l r h e (eqb_tells l k));
+      sound = λ l r h e. rw names (sound l r h e (eqb_tells l k));
     }
       where
         below : (l : ℕ) (r : Known) → map.get d l ≡ Some r → leq nat_eq r.cell t ≡ true
             → IsPrefix c r.cell (depth r.cell) × (f (mask r.cell) ≡ Some l)
         below l r h e =
             let o = cell_record b l r.cell (sym (name l) ∙ cell_known d l r h) in
-            subst (λ p. IsPrefix c p (depth p) × (f (mask p) ≡ Some l)) o.2
-            (stage.below l o.0 o.1 (ap (λ p. leq nat_eq p t) o.2 ∙ e))
+            rw (← o.2) (stage.below l o.0 o.1 (ap (λ p. leq nat_eq p t) o.2 ∙ e))
 
         apart : (l : ℕ) (r : Known) → map.get a.now l ≡ Some r → leq nat_eq r.cell t ≡ false → map.get d l ≡ Some r
         apart l r g e = elim (eqb_tells l k) [
           | inl s ↦ absurd (true≢false
               (sym (ap (λ p. leq nat_eq p t)
               (ap (λ (x : Known). x.cell) (some_same (sym (stage.apart l r g e) ∙ ap (map.get b) s.1 ∙ before)))
-              ∙ sym (leq_is n.cell t) ∙ prefix_leq c n.cell (depth n.cell) front) ∙ e))
+              ∙ sym (leq_is n.cell t) ∙ prefix_leq c n.cell _ front) ∙ e))
           | inr s ↦ others l s.1 ∙ stage.apart l r g e
         ]
 
@@ -124,14 +122,12 @@ module _ {t : Cell ℕ} {a : Arena} (c : Case t a) where
     parent = is.parent;
     rises = rises-put e n.edges is.rises;
     place = λ x m. elim (among_put e n.edges x m) [
-      | inl s ↦ subst (λ (y : Edge ℕ ℕ). (y.dim < length t)
-          × IsPrefix c n.cell y.dim) (sym s) (fits.0, fits.1)
+      | inl s ↦ rw s (fits.0, fits.1)
       | inr o ↦ is.place x o
     ];
     leads = λ x m. elim (among_put e n.edges x m) [
       | inl s
-          ↦ subst (λ (y : Edge ℕ ℕ). (new_lead c n.cell y.dim y.value ≡ name y.target)
-          ⊎ (slice_index_or t y.dim None ≡ Some y.value)) (sym s) fits.2
+          ↦ rw s fits.2
       | inr o ↦ is.leads x o
     ];
     class = is.class;
@@ -141,7 +137,7 @@ module _ {t : Cell ℕ} {a : Arena} (c : Case t a) where
       → ((e : Edge ℕ ℕ) → Among e es → Fits name n.cell e) → IsSound c name n → IsSound c name (with_edges es n)
   puts_sound name [] n fits is = is
   puts_sound name (e ∷ es) n fits is
-      = puts_sound name es (with_edge e n) (λ x m. fits x (inr m)) (put_sound name e n (fits e (inl refl)) is)
+      = puts_sound name es _ (λ x m. fits x (inr m)) (put_sound name e n (fits e (inl refl)) is)
 
   -- the record of a number is that of the node with the mask
   module _ (f : ℕ → Option ℕ) (b : Tree ℕ) (stage : IsStage c b f) where
@@ -152,14 +148,13 @@ module _ {t : Cell ℕ} {a : Arena} (c : Case t a) where
         let n = cell_record b k q.0 q.1 in (
           n.0,
           n.1,
-          n.2 ∙ prefix_told c q.0 p q.3 (prefix_before c p (depth p) i (prefix_deep c p i front) (omega arith) front)
+          n.2 ∙ prefix_told c q.0 p q.3 (prefix_before c p _ i (prefix_deep c p i front) (omega arith) front)
               (q.2 ∙ sym dims),
         )
 
     pub prefix_there : (p : Cell ℕ) (i : ℕ) (n : Known) → IsPrefix c p i → n.cell ≡ p → IsPrefix c n.cell (depth n.cell)
     prefix_there p i n front e
-        = subst (λ q. IsPrefix c q (depth q)) (sym e)
-        (prefix_before c p (depth p) i (prefix_deep c p i front) (omega arith) front)
+        = rw e (prefix_before c p _ i (prefix_deep c p i front) (omega arith) front)
 
     -- the labels of another node
     module _ (x : LabelCopy) (is : IsCopyOf c x) (k : ℕ) (number : f x.mask ≡ Some k) where
@@ -167,28 +162,28 @@ module _ {t : Cell ℕ} {a : Arena} (c : Case t a) where
       copied_self e = (
         stage,
         λ q i v h. h,
-        (k, number, λ i v h. subst (λ q. HasLabel i v (record_at b q).edges) e (stage.stays x.from.0 i v h)),
+        (k, number, λ i v h. rw (← e) (stage.stays x.from.0 i v h)),
       )
 
       -- another node's prefix that generalizes t is the node itself
       source : x.from.0 ≢ k → (r : Known) × (map.get a.now x.from.0 ≡ Some r) × (r.cell ≡ cell_prefix is.dim is.upper)
           × (map.get b x.from.0 ≡ Some r)
       source off =
-          let r = cell_record a.now x.from.0 (cell_prefix is.dim is.upper) is.from in
-          (r.0, r.1, r.2, go r.0 r.1 r.2 (leq nat_eq (cell_prefix is.dim is.upper) t) refl)
+          let r = cell_record a.now x.from.0 _ is.from in
+          (r.0, r.1, r.2, go r.0 r.1 r.2 _ refl)
         where
           go : (r : Known) → map.get a.now x.from.0 ≡ Some r → r.cell ≡ cell_prefix is.dim is.upper → (s : Bool)
               → leq nat_eq (cell_prefix is.dim is.upper) t ≡ s → map.get b x.from.0 ≡ Some r
           go r g e false l = stage.apart x.from.0 r g (ap (λ p. leq nat_eq p t) e ∙ l)
           go r g e true l =
               let below : leq (eq_by_cmp nat_cmp) (cell_prefix is.dim is.upper) t ≡ true
-              = leq_is (cell_prefix is.dim is.upper) t ∙ l in
+              = leq_is _ t ∙ l in
               let met : meet (eq_by_cmp nat_cmp) (cell_prefix is.dim is.upper) t ≡ is.node
               = sym (cut c is.node is.upper is.dim is.front is.closure is.dim) ∙ is.front in
               let same : cell_prefix is.dim is.upper ≡ is.node
-              = sym (meet_of_leq code_equality (cell_prefix is.dim is.upper) t below) ∙ met in
-              let at = stage.cells x.from.0 (cell_prefix is.dim is.upper) is.from in
-              let o = cell_record b x.from.0 (cell_prefix is.dim is.upper) at in
+              = sym (meet_of_leq code_equality _ t below) ∙ met in
+              let at = stage.cells x.from.0 _ is.from in
+              let o = cell_record b x.from.0 _ at in
               let told = (stage.below x.from.0 o.0 o.1 (ap (λ p. leq nat_eq p t) o.2 ∙ l)).1 in
               absurd (off (some_same (sym told ∙ ap f (ap mask (o.2 ∙ same) ∙ is.dims) ∙ number)))
 
@@ -207,20 +202,17 @@ module _ {t : Cell ℕ} {a : Arena} (c : Case t a) where
           let after : map.get d k ≡ Some (with_edges es n.0) = here ∙ ap (option_map (with_edges es)) n.1 in
           let same : es ≡ r.0.edges = ap (λ (y : Known). y.edges) (record_known b x.from.0 r.0 r.3) in
           let fits : (e : Edge ℕ ℕ) → Among e es → Fits (cell_at b) n.0.cell e
-          = λ e m. subst (λ p. Fits (cell_at b) p e) (sym n.2)
-          (fit r.0 r.1 r.2 e (subst (λ ys. Among e ys) same m)) in
+          = λ e m. rw n.2 (fit r.0 r.1 r.2 e (rw (← same) m)) in
           let old : (record_at a.now x.from.0).edges ≡ es
           = ap (λ (y : Known). y.edges) (record_known a.now x.from.0 r.0 r.1) ∙ sym same in (
-            staged b d k n.0 (with_edges es n.0) n.1 after refl others c f
+            staged b d k n.0 _ n.1 after refl others c f
                 (prefix_there is.node is.dim n.0 is.front n.2) (λ i v. labels_put es n.0.edges i v) stage
-                (puts_sound (cell_at b) es n.0 fits),
-            labels b d k n.0 (with_edges es n.0) n.1 after refl others (λ i v. labels_put es n.0.edges i v),
+                (puts_sound _ es n.0 fits),
+            labels b d k n.0 _ n.1 after refl others (λ i v. labels_put es n.0.edges i v),
             (
               k,
               number,
-              λ i v h. subst (λ (y : Known). HasLabel i v y.edges)
-                  (sym (record_known d k (with_edges es n.0) after))
-                  (labels_here es n.0.edges i v (subst (HasLabel i v) old h)),
+              λ i v h. rw (record_known d k _ after) (labels_here es n.0.edges i v (rw (← old) h)),
             ),
           )
         where

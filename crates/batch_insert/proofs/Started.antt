@@ -1,6 +1,6 @@
 -- Once all nodes with the row have their numbers, their records are sound.
 use Rattle.std.proofs.Common.{◌≡◌, ◌⊎◌, inl, inr, ℕ, ◌<◌, Bool, true, false, cond, Option, Some, None, IsSome, ◌∷◌, ◌++◌, length, nat_cmp}
-use Rattle.std.proofs.Common.{nat_eq, refl, sym, ap, slice_index_or, subst, ◌∙◌}
+use Rattle.std.proofs.Common.{nat_eq, refl, sym, ap, slice_index_or, ◌∙◌}
 use Rattle.std.proofs.lemmas.Bool.{cond-true}
 use Rattle.std.specs.Ordering.{eq_by_cmp}
 use Rattle.std.specs.Option.{option_map}
@@ -47,8 +47,7 @@ module _ {t : Cell ℕ} {a : Arena} (c : Case t a) where
       → defs.is_node (eq_by_cmp nat_cmp) (c.xs ++ c.row ∷ c.ys) p ≡ true
   node_of_prefix p f =
       (is_node-is code_equality (c.xs ++ c.row ∷ c.ys) p).1
-      (ap (option_map (cell_prefix (depth p)))
-      (new_closed p (sym (leq_is p t) ∙ prefix_leq c p (depth p) f)) ∙ ap (λ x. Some x) f)
+      (ap (option_map (cell_prefix (depth p))) (new_closed p (sym (leq_is p t) ∙ prefix_leq c p _ f)) ∙ ap (λ x. Some x) f)
 
   -- the records of the nodes that there were
   module _ (name : ℕ → Option (Cell ℕ)) (more : (l : ℕ) (q : Cell ℕ) → cell_at a.now l ≡ Some q → name l ≡ Some q)
@@ -57,8 +56,7 @@ module _ {t : Cell ℕ} {a : Arena} (c : Case t a) where
     shut = closed a (record { measures = c.measures; rows = c.xs ++ c.ys }) c.from k n g
 
     class : (n.class ≡ None) ⊎ (new_closure c n.cell ≡ n.cell)
-    class = go (cell_eq (eq_by_cmp nat_cmp) shut.0 (cell_prefix (depth n.cell) shut.0)) refl
-        (ap (λ m. m.class) (read c n.cell shut.0 (depth n.cell) front shut.1 k n g (sym shut.2)))
+    class = go _ refl (ap (λ m. m.class) (read c n.cell shut.0 _ front shut.1 k n g (sym shut.2)))
       where
         go : (b : Bool) → cell_eq (eq_by_cmp nat_cmp) shut.0 (cell_prefix (depth n.cell) shut.0) ≡ b
             → n.class ≡ cond b (Some
@@ -67,17 +65,14 @@ module _ {t : Cell ℕ} {a : Arena} (c : Case t a) where
         go false e h = inl h
         go true e h =
             let same : shut.0 ≡ n.cell = cell_eq-exact code_equality _ _ e ∙ shut.2 in
-            inr (leq_antisymm code_equality (new_closure c n.cell) n.cell
-            (subst (λ x. leq (eq_by_cmp nat_cmp) (new_closure c n.cell) x ≡ true) same
-            (meet_after_rest code_equality t (old_closure c n.cell) shut.0 shut.1))
-            (above_self c n.cell (prefix_leq c n.cell (depth n.cell) front)))
+            inr (leq_antisymm code_equality _ n.cell (rw same at (meet_after_rest code_equality t _ shut.0 shut.1))
+            (above_self c n.cell (prefix_leq c n.cell _ front)))
 
     pub old_sound : IsSound c name n
     old_sound = record {
-      parent = parent_more (cell_at a.now) name more n.parent (parent_cell_of nat_cmp n.cell)
-          (source_parent c n.cell shut.0 (depth n.cell) front shut.1 k n g (sym shut.2)
+      parent = parent_more _ name more n.parent _ (source_parent c n.cell shut.0 _ front shut.1 k n g (sym shut.2)
           ∙ ap (λ q. option_map (λ x. Some x) (parent_cell_of nat_cmp q)) shut.2);
-      rises = source_rises c n.cell shut.0 (depth n.cell) front shut.1 k n g (sym shut.2);
+      rises = source_rises c n.cell shut.0 _ front shut.1 k n g (sym shut.2);
       place = λ x m. let l = label x m in (l.0, l.1);
       leads = λ x m. leads x m;
       class = class;
@@ -85,7 +80,7 @@ module _ {t : Cell ℕ} {a : Arena} (c : Case t a) where
       where
         label : (x : Edge ℕ ℕ) → Among x n.edges → (x.dim < length t) × IsPrefix c n.cell x.dim × (q : Cell ℕ)
             × (cell_at a.now x.target ≡ Some q) × (old_lead c n.cell x.dim x.value ≡ Some q)
-        label x m = source_label c n.cell shut.0 (depth n.cell) front shut.1 k n g (sym shut.2) x m
+        label x m = source_label c n.cell shut.0 _ front shut.1 k n g (sym shut.2) x m
 
         leads : (x : Edge ℕ ℕ) → Among x n.edges → (new_lead c n.cell x.dim x.value ≡ name x.target)
             ⊎ (slice_index_or t x.dim None ≡ Some x.value)
@@ -101,8 +96,8 @@ module _ {t : Cell ℕ} {a : Arena} (c : Case t a) where
   bare_sound b n bare = record {
     parent = bare.parent;
     rises = ap rises bare.edges;
-    place = λ x m. absurd (subst (λ es. Among x es) bare.edges m);
-    leads = λ x m. absurd (subst (λ es. Among x es) bare.edges m);
+    place = λ x m. absurd (rw bare.edges at m);
+    leads = λ x m. absurd (rw bare.edges at m);
     class = inl bare.class;
   }
 
@@ -113,7 +108,7 @@ module _ {t : Cell ℕ} {a : Arena} (c : Case t a) where
         let m = cell_record b k n.cell (begun.cells k n.cell (cell_known a.now k n g)) in
         elim (begun.left k m.0 m.1) [
           | inl old ↦ m.1 ∙ sym old ∙ g
-          | inr numbered ↦ elim (begun.records (mask m.0.cell) k numbered) [
+          | inr numbered ↦ elim (begun.records _ k numbered) [
             | inl same ↦ same ∙ g
             | inr new ↦ absurd (none_some (sym new.1 ∙ g))
           ]
@@ -121,10 +116,10 @@ module _ {t : Cell ℕ} {a : Arena} (c : Case t a) where
 
     sound : (k : ℕ) (n : Known) → map.get b k ≡ Some n → IsPrefix c n.cell (depth n.cell) → IsSound c (cell_at b) n
     sound k n h front = elim (begun.left k n h) [
-      | inl old ↦ old_sound (cell_at b) begun.cells k n old front
-      | inr numbered ↦ elim (begun.records (mask n.cell) k numbered) [
-        | inl same ↦ old_sound (cell_at b) begun.cells k n (sym same ∙ h) front
-        | inr new ↦ bare_sound b n (subst (IsBare b) (some_same (sym new.2 ∙ h)) new.3)
+      | inl old ↦ old_sound _ begun.cells k n old front
+      | inr numbered ↦ elim (begun.records _ k numbered) [
+        | inl same ↦ old_sound _ begun.cells k n (sym same ∙ h) front
+        | inr new ↦ bare_sound b n (rw (← (some_same (sym new.2 ∙ h))) new.3)
       ]
     ]
 
@@ -135,14 +130,13 @@ module _ {t : Cell ℕ} {a : Arena} (c : Case t a) where
         | inl old ↦
             let node = (c.from.canonical.each k n old).0 in
             let front = prefix_of_node n.cell l (node-insert code_equality c.xs c.row c.ys n.cell node) in
-            let number = some_there (f (mask n.cell)) (all n.cell front) in (
+            let number = some_there (f _) (all n.cell front) in (
               front,
-              number.1 ∙ ap (λ j. Some j)
-                  (sym (begun_told c b f k (mask n.cell) number.0 n begun h front refl number.1)),
+              number.1 ∙ ap (λ j. Some j) (sym (begun_told c b f k _ number.0 n begun h front refl number.1)),
             )
         | inr numbered ↦
-            let p = begun.nodes (mask n.cell) k numbered in
-            (subst (λ q. IsPrefix c q (depth q)) (some_same (sym p.1 ∙ cell_known b k n h)) p.3, numbered)
+            let p = begun.nodes _ k numbered in
+            (rw (← (some_same (sym p.1 ∙ cell_known b k n h))) p.3, numbered)
       ]
 
       pub begun_stage : IsStage c b f
@@ -158,6 +152,6 @@ module _ {t : Cell ℕ} {a : Arena} (c : Case t a) where
         where
           stays : (k i v : ℕ) → HasLabel i v (record_at a.now k).edges → (o : Option Known) → map.get a.now k ≡ o
               → HasLabel i v (record_at b k).edges
-          stays k i v h None e = absurd (subst (λ (n : Known). Among h.0 n.edges) (ap record_or e) h.1)
+          stays k i v h None e = absurd (rw (ap record_or e) at h.1)
           stays k i v h (Some n) e
-              = subst (λ (n : Known). HasLabel i v n.edges) (ap record_or (e ∙ sym (unchanged k n e))) h
+              = rw (← (ap record_or (e ∙ sym (unchanged k n e)))) h

@@ -1,19 +1,18 @@
 -- The labels with the row's value are set.
-use Rattle.std.proofs.Common.{◌≡◌, ◌≢◌, inl, inr, ℕ, Option, Some, None, nat_cmp, slice_index_or, refl, sym, ap, subst, ◌∙◌}
+use Rattle.std.proofs.Common.{◌≡◌, ◌≢◌, inl, inr, ℕ, Option, Some, None, nat_cmp, slice_index_or, refl, sym, ap, ◌∙◌}
 use Rattle.std.proofs.lemmas.Bool.Decides.{eqb_tells}
 use Rattle.std.specs.Ordering.{eq_by_cmp}
 use Rattle.std.specs.Option.{option_map}
 use Rattle.std.specs.FinMap as map
 use Rattle.cube_defs.specs.Cell.{Cell, mask}
-use Rattle.cube_defs.specs.Tree.{Edge, Tree, cell_at}
-use Rattle.cube_laws.specs.Lists.{Among}
+use Rattle.cube_defs.specs.Tree.{Edge, Tree}
 use Rattle.tree_laws.proofs.CallerLemmas.{some_same}
 use Rattle.tree_laws.specs.Labels.{target_after_row}
 use Rattle.qc_arena.specs.Edges.{put_edge, with_edge}
 use Rattle.qc_arena.specs.Map.{Arena, Known}
 use Rattle.qc_arena.specs.RecordReaders.{record_at, record_or}
 use Rattle.batch_insert.specs.declared.plan.TupleLabel.{TupleLabel}
-use Rattle.batch_insert.specs.Cases.{Case, IsPrefix, old_lead}
+use Rattle.batch_insert.specs.Cases.{Case, old_lead}
 use Rattle.batch_insert.specs.Stages.{EdgesStay, HasLabel, IsSet, IsStage, LabelsStay}
 use Rattle.batch_insert.specs.Whole.{IsTupleLabelOf}
 use Rattle.batch_insert.proofs.Coming.{prefix_told}
@@ -33,8 +32,7 @@ set_stays t b d f x same h
       h.3,
       h.4,
       h.5,
-      subst (λ es. Among (record { dim = x.dim; value = h.2; target = h.1 }) es)
-          (sym (same h.0)) h.6,
+      rw (same h.0) h.6,
     )
 
 module _ {t : Cell ℕ} {a : Arena} (c : Case t a) where
@@ -68,7 +66,7 @@ module _ {t : Cell ℕ} {a : Arena} (c : Case t a) where
     after = here ∙ ap (option_map (with_edge edge)) n.1
 
     edges_after : (record_at d k).edges ≡ put_edge edge (record_at b k).edges
-    edges_after = ap (λ (r : Known). r.edges) (record_known d k (with_edge edge n.0) after)
+    edges_after = ap (λ (r : Known). r.edges) (record_known d k _ after)
         ∙ ap (λ (r : Known). put_edge edge r.edges) (sym (record_known b k n.0 n.1))
 
     stays : (y : TupleLabel) → IsTupleLabelOf c y → IsSet t b f y → IsSet t d f y
@@ -80,14 +78,12 @@ module _ {t : Cell ℕ} {a : Arena} (c : Case t a) where
       h.4,
       h.5,
       elim (eqb_tells h.0 k) [
-        | inl s ↦ subst (λ es. Among (other y h.1 h.2) es) (sym (ap (λ q. (record_at d q).edges) s.1 ∙ edges_after))
-            (elim (put_stays edge (record_at b k).edges (other y h.1 h.2)
-            (subst (λ q. Among (other y h.1 h.2) (record_at b q).edges) s.1 h.6)) [
+        | inl s ↦ rw (ap (λ q. (record_at d q).edges) s.1 ∙ edges_after) (elim (put_stays edge (record_at b k).edges (other y h.1 h.2)
+            (rw (← s.1) h.6)) [
               | inl m ↦ m
-              | inr e ↦ subst (λ z. Among z (put_edge edge (record_at b k).edges))
-                  (one e.dim e.value (masks (h.3 ∙ ap (λ q. Some q) s.1))) (put_here edge (record_at b k).edges)
+              | inr e ↦ rw (← (one e.dim e.value (masks (h.3 ∙ ap (λ q. Some q) s.1)))) (put_here edge (record_at b k).edges)
             ])
-        | inr s ↦ subst (λ (r : Known). Among (other y h.1 h.2) r.edges) (sym (ap record_or (others h.0 s.1))) h.6
+        | inr s ↦ rw (ap record_or (others h.0 s.1)) h.6
       ],
     )
       where
@@ -104,14 +100,13 @@ module _ {t : Cell ℕ} {a : Arena} (c : Case t a) where
     pub owned : IsStage c d f × LabelsStay b d × IsSet t d f x
         × ((y : TupleLabel) → IsTupleLabelOf c y → IsSet t b f y → IsSet t d f y)
     owned = (
-      staged b d k n.0 (with_edge edge n.0) n.1 after refl others c f
-          (prefix_there c f b stage is.node x.dim n.0 is.front n.2) more stage
-          (put_sound c (cell_at b) edge n.0 (
+      staged b d k n.0 _ n.1 after refl others c f (prefix_there c f b stage is.node x.dim n.0 is.front n.2) more stage
+          (put_sound c _ edge n.0 (
             is.within,
-            subst (λ p. IsPrefix c p x.dim) (sym n.2) is.front,
+            rw n.2 is.front,
             inr value,
           )),
-      labels b d k n.0 (with_edge edge n.0) n.1 after refl others more,
+      labels b d k n.0 _ n.1 after refl others more,
       (
         k,
         l,
@@ -119,7 +114,7 @@ module _ {t : Cell ℕ} {a : Arena} (c : Case t a) where
         number,
         target,
         value,
-        subst (λ es. Among edge es) (sym edges_after) (put_here edge (record_at b k).edges),
+        rw edges_after (put_here edge (record_at b k).edges),
       ),
       stays,
     )

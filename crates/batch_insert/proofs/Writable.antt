@@ -1,7 +1,7 @@
 -- Each node that a plan names has a number, once all nodes have one.
-use Rattle.std.proofs.Common.{◌≡◌, ℕ, suc, All, true, Option, Some, None, IsSome, is_some, length, subst}
+use Rattle.std.proofs.Common.{◌≡◌, ℕ, All, true, Option, Some, None, IsSome, is_some, length}
 use Rattle.std.specs.Prelude.{IfSome}
-use Rattle.cube_defs.specs.Cell.{Cell, depth, mask, with_value}
+use Rattle.cube_defs.specs.Cell.{Cell, depth, mask}
 use Rattle.cube_defs.specs.Tree.{Tree}
 use Rattle.qc_arena.specs.Map.{Arena}
 use Rattle.batch_insert.specs.declared.plan.ForcedChild.{ForcedChild}
@@ -18,7 +18,7 @@ use Rattle.batch_insert.proofs.Turns.{value_there}
 module _ {t : Cell ℕ} {a : Arena} (full : All (λ e. is_some e ≡ true) t) (c : Case t a)
     (f : ℕ → Option ℕ) (all : (q : Cell ℕ) → IsPrefix c q (depth q) → IsSome (f (mask q))) where
   node_number : (p : Cell ℕ) (i m : ℕ) → IsPrefix c p i → mask p ≡ m → IsSome (f m)
-  node_number p i m front dims = subst (λ x. IsSome (f x)) dims (all p (deep_prefix c p i front))
+  node_number p i m front dims = rw (← dims) (all p (deep_prefix c p i front))
 
   copy_number : (x : LabelCopy) → IsCopyOf c x → IsSome (f x.mask)
   copy_number x is = node_number is.node is.dim x.mask is.front is.dims
@@ -29,7 +29,7 @@ module _ {t : Cell ℕ} {a : Arena} (full : All (λ e. is_some e ≡ true) t) (c
   target_number : (x : TupleLabel) → IsTupleLabelOf c x → IsSome (f x.target)
   target_number x is =
       let v = value_there t x.dim full is.within in
-      node_number _ (suc x.dim) x.target (target_prefix c is.node x.dim v.0) (is.target v.0 v.1)
+      node_number _ _ x.target (target_prefix c is.node x.dim v.0) (is.target v.0 v.1)
 
   kind_number : (x : NodeKind) → IsEndFor c x → IsSome (f x.mask)
   kind_number x is = go x.forced is.last
@@ -46,8 +46,7 @@ module _ {t : Cell ℕ} {a : Arena} (full : All (λ e. is_some e ≡ true) t) (c
       go (Some g) h =
           let v = value_there t g.dim full h.1 in
           let next = h.2 v.0 v.1 in
-          node_number (with_value is.node g.dim v.0) (suc g.dim) g.child
-          (next_prefix c is.node g.dim v.0 h.0 next.0) next.1
+          node_number _ _ g.child (next_prefix c is.node g.dim v.0 h.0 next.0) next.1
 
   pub writable : (measures : ℕ) (b : Tree ℕ) (plan : Plan) → IsPlan t a plan
       → All (λ x. IsLabelCopy b x) plan.copies.items → All (λ x. IsNodeKind (length t) measures x) plan.ends.items

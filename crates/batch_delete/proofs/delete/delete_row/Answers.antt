@@ -1,12 +1,10 @@
-use Rattle.std.proofs.Common.{◌≡◌, ◌∙◌, OnOk, Ok, Err, ap, length, refl, sym, subst}
+use Rattle.std.proofs.Common.{◌≡◌, ◌∙◌, OnOk, Ok, Err, ap, refl, sym}
 use Rattle.std.specs.FinMap as map
 use Rattle.std.specs.declared.result.Result.{Result}
 use Rattle.cube_defs.specs.Tree.{cell_at}
 use Rattle.qc_arena.specs.Map.{Arena, is_open}
 use Rattle.tree_laws.proofs.CallerLemmas as lists
 use Rattle.tree_search.specs.Found.{IsTreeOf, TreeRows}
-use Rattle.batch_delete.specs.Generalizing.{AreGeneralizing}
-use Rattle.batch_delete.specs.Gone.{source_after}
 use Rattle.batch_delete.specs.Rests.{source_before}
 use Rattle.batch_delete.proofs.Outcomes.{apart, ready}
 use Rattle.batch_delete.proofs.Renewed.{comes, renewed, still}
@@ -21,7 +19,7 @@ on_ok (Err e) h f = h
 still_from : (old new : Arena) (source : TreeRows) → new.now ≡ old.now → new.width ≡ old.width
     → IsTreeOf old.width old.now source → IsTreeOf new.width new.now source
 still_from old new source now width h
-    = subst (λ t. IsTreeOf new.width t source) (sym now) (subst (λ w. IsTreeOf w old.now source) (sym width) h)
+    = rw now (rw width h)
 
 pub rewrite_or_remove_all-requires : goal.rewrite_or_remove_all-requires
 rewrite_or_remove_all-requires g c =
@@ -31,8 +29,7 @@ rewrite_or_remove_all-requires g c =
     let width = ap (λ (x : Arena). x.width) c.touch_all.ensures.frame in
     let from = still_from c.args.arena.now a (source_before g.deletion) c.touch_all.ensures.now width
     c.requires.1.1.1.0 in
-    let below = subst (λ t. AreGeneralizing t tuple (length tuple) list) (sym c.touch_all.ensures.now)
-    c.in-Ok.ensures.below in
+    let below = rw (← c.touch_all.ensures.now) at c.in-Ok.ensures.below in
     let long = c.requires.1.1.0 ∙ sym width in
     record {
       opened = ap is_open c.touch_all.ensures.frame ∙ c.requires.1.0;
@@ -54,14 +51,12 @@ returns g c =
     let row = c.requires.1.1.1.1.0 in
     let from = still_from c.args.arena.now a (source_before g.deletion) c.touch_all.ensures.now width
     c.requires.1.1.1.0 in
-    let below = subst (λ t. AreGeneralizing t tuple (length tuple) list)
-    (sym c.touch_all.ensures.now) c.in-Ok.ensures.below in
+    let below = rw (← c.touch_all.ensures.now) at c.in-Ok.ensures.below in
     let planned = c.in-Ok-plan_all.ensures.planned in
     let others = c.rewrite_or_remove_all.ensures.others in
     record {
       tree = on_ok c.rewrite_or_remove_all.result c.rewrite_or_remove_all.ensures.here
-          (λ here. subst (λ w. IsTreeOf w new (source_after g.deletion)) width
-          (renewed a.width a.now new tuple g.deletion from long row plan list below planned here others));
+          (λ here. rw (← width) (renewed a.width a.now new tuple g.deletion from long row plan list below planned here others));
       numbers = on_ok c.rewrite_or_remove_all.result c.rewrite_or_remove_all.ensures.here
           (λ here k x at node. still a.width a.now new tuple g.deletion from long row plan list below planned here
           others k x (ap (λ t. cell_at t k) c.touch_all.ensures.now ∙ at) node);
@@ -108,8 +103,7 @@ plan_all-requires g c κs within =
           duplicates = c.requires.1.1.1.1.1.1;
           few = c.requires.1.1.1.1.1.0;
         },
-        subst (λ t. AreGeneralizing t c.args.tuple.now (length c.args.tuple.now) c.in-Ok.list.items)
-            (sym c.touch_all.ensures.now) c.in-Ok.ensures.below,
+        rw c.touch_all.ensures.now c.in-Ok.ensures.below,
       ),
     )
 

@@ -1,8 +1,5 @@
-use Rattle.std.proofs.Common.{◌≡◌, ◌≤◌, Some, arith, get_or, length, subst, sym}
-use Rattle.cube_defs.specs.Cell.{depth}
-use Rattle.cube_defs.specs.Tree.{cell_at}
-use Rattle.batch_delete.specs.declared.generalizing.NodeCell.{NodeCell}
-use Rattle.batch_delete.specs.Generalizing.{AddsChildren, AddsChild, no_node_cell}
+use Rattle.std.proofs.Common.{◌≡◌, arith, get_or, length}
+use Rattle.batch_delete.specs.Generalizing.{no_node_cell}
 use Rattle.batch_delete.proofs.Childs.{cell_wide}
 use Rattle.batch_delete.proofs.Growing.{grown_more, grown_none, item_at, item_is}
 use Rattle.batch_delete.proofs.generalizing.add_children.Goals as goal
@@ -28,9 +25,8 @@ add_child-requires g c =
     record {
       tree = c.requires.tree;
       place = omega (arith, many, c.nodes-test.true, longer);
-      cell = subst (λ (b : NodeCell). cell_at c.args.arena.now.now b.node.0 ≡ Some b.cell) (sym is)
-          (c.requires.cells c.nodes.k b at);
-      behind = subst (λ (b : NodeCell). depth b.cell ≤ c.args.dim) (sym is) (c.requires.short c.nodes.k b at);
+      cell = rw is (c.requires.cells c.nodes.k b at);
+      behind = rw is (c.requires.short c.nodes.k b at);
       dim = c.requires.dim;
       code = c.requires.code;
     }
@@ -51,8 +47,7 @@ nodes-preserved g c =
           c.requires.short c.requires.order
           c.nodes.k (get_or old c.nodes.k no_node_cell) c.nodes.list.items c.add_child.new.list.items
           (omega arith) at c.nodes.invariant.grown
-          (subst (λ (b : NodeCell). AddsChild t c.args.dim c.args.code b.cell c.nodes.list.items
-          c.add_child.new.list.items) is c.in_ok-add_child.ensures.grows);
+          (rw (← is) c.in_ok-add_child.ensures.grows);
       steps = omega arith;
     }
 
@@ -60,8 +55,7 @@ pub returns-clause-grown : goal.returns-clause-grown
 returns-clause-grown g c =
     let all : c.nodes.k ≡ length c.args.list.now.items
     = omega (arith, c.len-many.ensures, c.nodes-test.false, c.nodes.auto.k-end) in
-    subst (λ n. AddsChildren c.args.arena.now.now c.args.dim c.args.code c.args.list.now.items n c.nodes.list.items) all
-    c.nodes.invariant.grown
+    rw (← all) c.nodes.invariant.grown
 
 pub returns-clause-steps : goal.returns-clause-steps
 returns-clause-steps g c = omega (arith, c.nodes.invariant.steps, c.len-many.ensures, c.nodes.auto.k-end)

@@ -1,8 +1,7 @@
-use Rattle.std.proofs.Common.{◌≡◌, ◌∙◌, ◌++◌, ◌∷◌, [], None, Some, List, ap, replicate, subst, sym}
+use Rattle.std.proofs.Common.{◌≡◌, ◌∙◌, ◌++◌, ◌∷◌, [], None, Some, List, ap, replicate}
 use Rattle.cell_core.specs.declared.cell.NodeNo.{NodeNo}
 use Rattle.cube_defs.specs.Tree.{cell_at}
 use Rattle.batch_delete.specs.declared.generalizing.NodeCell.{NodeCell}
-use Rattle.batch_delete.specs.Generalizing.{AreGeneralizing}
 use Rattle.batch_delete.proofs.Childs.{none_of}
 use Rattle.batch_delete.proofs.Growing.{no_root, root_alone}
 use Rattle.batch_delete.proofs.generalizing.start.Goals as goal
@@ -11,8 +10,7 @@ use Rattle.cube_laws.proofs.CallerLemmas.{some_of}
 pub returns-in-None-clause-below : goal.returns-in-None-clause-below
 returns-in-None-clause-below g c =
     let a = c.args.arena.now in
-    subst (AreGeneralizing a.now c.args.tuple.now 0) (sym c.in_ok-list.ensures.items)
-    (no_root a.width a.now c.requires.tree.0 c.requires.tree.1 c.args.tuple.now
+    rw c.in_ok-list.ensures.items (no_root a.width a.now c.requires.tree.0 c.requires.tree.1 c.args.tuple.now
     (none_of _ c.root.result c.in-None.is c.root.ensures.none))
 
 pub returns-in-Ok-clause-below : goal.returns-in-Ok-clause-below
@@ -24,6 +22,5 @@ returns-in-Ok-clause-below g c =
     let list = c.in-Ok.ensures
     ∙ ap (λ (l : List NodeCell). l ++ record { node = c.in-Some.node; cell = c.any-cell.result } ∷ [])
     c.in_ok-list.ensures.items in
-    subst (AreGeneralizing a.now c.args.tuple.now 0) (sym list)
-    (root_alone a.width a.now c.requires.tree.0 c.requires.tree.1 c.args.tuple.now
+    rw list (root_alone a.width a.now c.requires.tree.0 c.requires.tree.1 c.args.tuple.now
     (record { node = c.in-Some.node; cell = c.any-cell.result }) cell at c.requires.long)

@@ -1,6 +1,4 @@
-use Rattle.std.proofs.Common.{◌∙◌, Some, ap, arith, refl, subst, sym, true≢false}
-use Rattle.std.specs.Prelude.{IsSome}
-use Rattle.std.specs.FinMap as map
+use Rattle.std.proofs.Common.{◌∙◌, Some, ap, arith, refl, sym, true≢false}
 use Rattle.std.proofs.lemmas.Option.{slice_get_within}
 use Rattle.qc_arena.specs.Map.{Arena, is_open}
 use Rattle.batch_delete.proofs.Growing.{item_at}
@@ -22,8 +20,7 @@ pub touch-requires-clause-node : goal.touch-requires-clause-node
 touch-requires-clause-node g c =
     let at = item_at c.args.list.now.items c.nodes.k c.index.result.now
     (omega (arith, c.len-k-end.ensures, c.nodes-test.true)) ∙ ap (λ b. Some b) (sym c.index.ensures) in
-    subst (λ t. IsSome (map.get t c.index.result.now.node.0)) (sym c.nodes.invariant.now)
-    (c.requires.there c.nodes.k c.index.result.now at)
+    rw c.nodes.invariant.now (c.requires.there c.nodes.k c.index.result.now at)
 
 pub nodes-preserved : goal.nodes-preserved
 nodes-preserved g c =

@@ -1,10 +1,7 @@
-use Rattle.std.proofs.Common.{◌≡◌, ◌∙◌, ◌+◌, suc, ap, arith, nat_cmp, length-set, subst, sym, Some}
-use Rattle.std.specs.Ordering.{eq_by_cmp}
+use Rattle.std.proofs.Common.{◌≡◌, ◌∙◌, ◌+◌, suc, ap, arith, length-set, sym, Some}
 use Rattle.cell_core.specs.Entry.{value_in}
 use Rattle.cube_defs.specs.Cell.{with_value}
-use Rattle.tree_laws.specs.Walk.{closure_prefix}
-use Rattle.tree_search.specs.Found.{IsNumberOfCell}
-use Rattle.batch_delete.specs.Rests.{rows_before, source_before}
+use Rattle.batch_delete.specs.Rests.{source_before}
 use Rattle.batch_delete.proofs.PartialSearches.{ends, entry_after, goes_on, stops}
 use Rattle.batch_delete.proofs.partial_search.find_from.Goals as goal
 
@@ -42,8 +39,7 @@ dims-preserved g c =
     let had = c.dims.invariant.steps in
     let took = c.step.ensures.steps in
     record {
-      on = subst (λ n. IsNumberOfCell a.now (Some c.in_ok-node.node.0)
-          (closure_prefix (eq_by_cmp nat_cmp) (rows_before g.d) cell n)) next on;
+      on = rw (← next) on;
       from = omega arith;
       steps = omega arith;
     }

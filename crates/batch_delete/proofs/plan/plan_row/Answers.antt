@@ -1,7 +1,6 @@
-use Rattle.std.proofs.Common.{◌≡◌, ◌∙◌, ◌≤◌, ◌+◌, ◌-◌, suc, Some, ap, arith, drop, length, subst, sym}
+use Rattle.std.proofs.Common.{◌≡◌, ◌∙◌, ◌+◌, ◌-◌, suc, Some, ap, arith, drop, length, sym}
 use Rattle.std.proofs.lemmas.Option.{slice_get_within}
 use Rattle.batch_delete.specs.Plan.{planning_cost}
-use Rattle.batch_delete.specs.Rests.{ArePlanned}
 use Rattle.batch_delete.proofs.NodePlans.{greater_planned, planned_more, planning_more}
 use Rattle.batch_delete.proofs.Growing.{item_at}
 use Rattle.batch_delete.proofs.plan.plan_row.Goals as goal
@@ -18,7 +17,7 @@ node_plan_of-fate-requires g c κs within =
     let next : length xs - c.nodes.k ≡ suc j = omega arith in
     let row = c.requires.1.gone in
     let are = c.requires.1.below in
-    let had = subst (ArePlanned g.d a.now c.nodes.plan.entries xs) next c.nodes.invariant.planned in
+    let had = rw next at c.nodes.invariant.planned in
     let greater = greater_planned a.width a.now g.d row.tree c.args.row.now.tuple.now row.long xs are j b at
     c.nodes.plan.entries had in
     (within, record { gone = row; cell = are.cells j b at; low = are.below j b at; planned = greater })
@@ -36,7 +35,7 @@ nodes-preserved g c =
     let next : length xs - c.nodes.k ≡ suc j = omega arith in
     let here : j ≡ length xs - (c.nodes.k + 1) = omega arith in
     let are = c.requires.1.below in
-    let had = subst (ArePlanned g.d a.now c.nodes.plan.entries xs) next c.nodes.invariant.planned in
+    let had = rw next at c.nodes.invariant.planned in
     let made = c.in_ok-add_node_plan.ensures in
     let fate = c.node_plan_of-fate.ensures in
     let all = planned_more a.width a.now g.d c.requires.1.gone.tree c.args.row.now.tuple.now c.requires.1.gone.long xs are j b
@@ -50,7 +49,7 @@ nodes-preserved g c =
     = ap (λ m. planning_cost n a.now xs (drop m xs)) here in
     let took = fate.steps xs are in
     record {
-      planned = subst (ArePlanned g.d a.now c.add_node_plan.new.plan.entries xs) here all;
+      planned = rw (← here) all;
       steps = omega (arith, before, took, left, now, more);
     }
 
@@ -70,6 +69,4 @@ pub returns-clause-steps : goal.returns-clause-steps
 returns-clause-steps g c =
     let xs = c.args.list.now.items in
     let z : length xs - c.nodes.k ≡ 0 = omega (arith, c.len-many.ensures, c.nodes-test.false) in
-    subst (λ m. c.nodes.steps ≤ c.args.steps.now
-    + planning_cost (length c.args.row.now.tuple.now) c.args.row.now.arena.now.now xs (drop m xs)) z
-    c.nodes.invariant.steps
+    rw z at c.nodes.invariant.steps

@@ -1,9 +1,8 @@
-use Rattle.std.proofs.Common.{◌+◌, ◌*◌, ◌≤◌, ◌≡◌, ◌∙◌, ap, arith, length, subst, sym}
+use Rattle.std.proofs.Common.{◌≡◌, ◌∙◌, ap, arith, length, sym}
 use Rattle.std.specs.Option.{option_map}
 use Rattle.qc_arena.specs.RecordReaders.{edge_of}
 use Rattle.batch_delete.specs.DeletedRow.{IsClassNode}
-use Rattle.batch_delete.specs.Plan.{planned_rest_in, prefix_labels, last_any_of}
-use Rattle.batch_delete.specs.Rests.{IsRest, rows_after}
+use Rattle.batch_delete.specs.Plan.{planned_rest_in}
 use Rattle.batch_delete.proofs.Childs.{cell_wide}
 use Rattle.batch_delete.proofs.PlanningNodes.{covered, forced_rest, part_planned, row_value, unforced}
 use Rattle.batch_delete.proofs.plan.rest_of.Goals as goal
@@ -42,8 +41,8 @@ returns-in-Some-clause-rest g c =
     let a = c.args.row.now.arena.now in
     let k = c.args.below.now.node.0 in
     let p = c.args.below.now.cell in
-    subst (IsRest g.d.measures (rows_after g.d) p) (sym (c.copied.ensures ∙ c.planned_rest.ensures))
-    (forced_rest a.width a.now g.d c.requires.1.gone.tree k p c.requires.1.cell c.args.row.now.tuple.now
+    rw (c.copied.ensures ∙ c.planned_rest.ensures) (forced_rest a.width a.now g.d c.requires.1.gone.tree k p c.requires.1.cell
+    c.args.row.now.tuple.now
     c.requires.1.gone.tuple c.requires.1.low (planned_rest_in c.args.plan.now.entries) c.requires.1.planned
     (edge_of c.in-Some.forced) (sym c.forced.ensures.value ∙ ap (option_map edge_of) c.in-Some.is))
 
@@ -55,5 +54,4 @@ returns-in-None-clause-steps g c = λ list are.
     let long : length p ≡ length c.args.row.now.tuple.now = wide ∙ sym c.requires.1.gone.long in
     let one = c.forced.ensures.steps in
     let took = c.class_after.ensures.steps list are in
-    subst (λ n. c.class_after.new.steps ≤ c.args.steps.now
-    + ((3 * n + 5) + (4 * n + 7) * prefix_labels a.now list p (last_any_of p))) long (omega arith)
+    rw (← long) (omega arith)

@@ -1,8 +1,8 @@
-use Rattle.std.proofs.Common.{◌≡◌, ◌≤◌, ◌<◌, ◌∙◌, Some, ap, arith, is_some, subst, sym}
+use Rattle.std.proofs.Common.{◌∙◌, ap, arith, is_some, sym}
 use Rattle.qc_arena.specs.Map.{Arena}
 use Rattle.qc_arena.specs.RecordReaders.{record_at}
 use Rattle.tree_search.proofs.CallerLemmas.{there_is}
-use Rattle.batch_delete.specs.Plan.{heir_in, new_target, next_entry}
+use Rattle.batch_delete.specs.Plan.{heir_in, next_entry}
 use Rattle.batch_delete.proofs.Rewritten.{all_mended, cut_is, cut_rises, cut_was, left_leads}
 use Rattle.batch_delete.proofs.Rewriting.{changed, more_changes, there_still}
 use Rattle.batch_delete.proofs.record_rewriting.rewrite_record.Goals as goal
@@ -29,14 +29,13 @@ redirect_tuple_edges-requires g c =
       long = long ∙ sym wide;
       from = omega arith;
       rises = cut_rises n _ _ c.next_value-next.result old c.cut_edges.ensures.here c.cut_edges.ensures.rises;
-      dims = λ j x e. let w = was j x e in subst (λ n. x.dim < n) (sym wide) (c.requires.node.dims w.0 x w.1);
-      behind = λ j x e. let w = was j x e in subst (λ n. n ≤ x.dim) (sym c.depth-from.ensures.value)
-          (c.requires.node.behind w.0 x w.1);
+      dims = λ j x e. let w = was j x e in rw wide (c.requires.node.dims w.0 x w.1);
+      behind = λ j x e. let w = was j x e in rw c.depth-from.ensures.value (c.requires.node.behind w.0 x w.1);
       targets = λ j t x e own.
           let w = was j x e in
           let led = left_leads n _ _ c.next_value-next.result old c.cut_edges.ensures.here tuple heirs x t w.2 own in
           there_still a.now c.cut_edges.new.arena.now k c.cut_edges.ensures.only.others (ap is_some is) t
-          (c.requires.rest.targets w.0 t x w.1 (subst (λ next. new_target tuple heirs next x ≡ Some t) entry led));
+          (c.requires.rest.targets w.0 t x w.1 (rw (← entry) led));
     }
 
 pub returns-clause-here : goal.returns-clause-here

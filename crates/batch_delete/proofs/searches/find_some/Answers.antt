@@ -1,11 +1,11 @@
-use Rattle.std.proofs.Common.{◌≡◌, ◌+◌, ◌-◌, ◌*◌, ◌∙◌, suc, None, ap, arith, get_or, length, subst}
+use Rattle.std.proofs.Common.{◌≡◌, ◌+◌, ◌-◌, ◌*◌, ◌∙◌, suc, None, ap, arith, get_or, length}
 use Rattle.std.specs.Option.{option_map}
 use Rattle.cube_laws.proofs.CallerLemmas.{get_among, times_mono}
 use Rattle.qc_arena.specs.RecordReaders.{number, record_at}
 use Rattle.tree_laws.proofs.CallerLemmas.{there}
 use Rattle.batch_delete.specs.Searching.{stepped}
 use Rattle.batch_delete.proofs.Others.{times_add}
-use Rattle.batch_delete.proofs.Searching.{come, come_first, come_found, come_on, come_there, all_steps, edge_in}
+use Rattle.batch_delete.proofs.Searching.{come_first, come_found, come_on, come_there, all_steps, edge_in}
 use Rattle.batch_delete.proofs.searches.find_some.Goals as goal
 
 pub targets-nodes-requires : goal.targets-nodes-requires
@@ -24,8 +24,7 @@ dims-init g c =
     let at = c.requires.1.0 in
     let next : suc c.args.dim ≡ c.args.dim + 1 = omega arith in
     record {
-      come = λ j x l has. subst (λ n. come g.d a.now c.args.class.now.cell.now c.args.dim x n
-          (option_map number (get_or c.targets-nodes.result j None))) next (come_first a.width a.now g.d at.known.gone.tree
+      come = λ j x l has. rw (← next) (come_first a.width a.now g.d at.known.gone.tree
           c.args.class.now.cell.now at.known.long c.args.dim x
           c.args.front.0 at.dim at.front (get_among (record_at a.now c.args.front.0).edges (c.args.from + j) x has) _
           (c.targets-nodes.ensures.targets j x l has));
@@ -44,8 +43,7 @@ step_all-requires g c =
       there = λ k q l has.
           let x = edge_in (record_at a.now c.args.front.0).edges (c.args.from + k) (omega arith) in
           come_there a.width a.now g.d at.known.gone.tree u at.known.long c.args.dim x.0 c.dims.next q.0
-          (subst (come g.d a.now u c.args.dim x.0 c.dims.next) (ap (option_map number) has)
-          (c.dims.invariant.come k x.0 (omega arith) x.1));
+          (rw (ap (option_map number) has) at (c.dims.invariant.come k x.0 (omega arith) x.1));
     }
 
 pub dims-preserved : goal.dims-preserved
@@ -63,8 +61,7 @@ dims-preserved g c =
     let more : 2 * (c.dims.next - c.args.dim - 1) + 2 ≡ 2 * (c.dims.next + 1 - c.args.dim - 1) = omega arith in
     let same = ap (λ n. many * n) more in
     record {
-      come = λ j x l has. subst (λ n. come g.d a.now u c.args.dim x n (option_map number (get_or c.step_all.new.nodes j None))) next
-          (come_on a.width a.now g.d at.known.gone.tree u long c.args.dim x c.dims.next _ _ after (omega arith)
+      come = λ j x l has. rw (← next) (come_on a.width a.now g.d at.known.gone.tree u long c.args.dim x c.dims.next _ _ after (omega arith)
           (c.dims.invariant.come j x l has)
           (c.step_all.ensures.stepped j (omega arith)
           ∙ ap (λ v. stepped a.now c.dims.next v (option_map number (get_or c.dims.nodes j None))) c.get.ensures.value));

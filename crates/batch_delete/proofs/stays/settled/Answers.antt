@@ -1,4 +1,4 @@
-use Rattle.std.proofs.Common.{◌≡◌, ◌∙◌, ℕ, Some, ap, arith, length, nat_cmp, slice_get, subst, sym}
+use Rattle.std.proofs.Common.{◌≡◌, ◌∙◌, ℕ, Some, ap, arith, length, nat_cmp, slice_get, sym}
 use Rattle.std.specs.Option.{option_copied, option_map}
 use Rattle.std.specs.Ordering.{eq_by_cmp}
 use Rattle.aggregates.specs.Views.{agg_in}
@@ -8,7 +8,7 @@ use Rattle.cube_laws.specs.Total.{agg_at}
 use Rattle.cube_laws.proofs.CallerLemmas.{count_one_less, slice_get-cell_of, some_of}
 use Rattle.batch_delete.specs.declared.parts.Rest.{Rest}
 use Rattle.batch_delete.specs.DeletedRow.{MaySettle}
-use Rattle.batch_delete.specs.Rests.{IsRest, rows_after, rows_before}
+use Rattle.batch_delete.specs.Rests.{rows_before}
 use Rattle.batch_delete.proofs.Counted.{counted, counted_at}
 use Rattle.batch_delete.proofs.Labelled.{law}
 use Rattle.batch_delete.proofs.Settled.{class_stays}
@@ -41,6 +41,5 @@ returns-then-are_all_but_one g c =
     let less = count_one_less law g.d.xs g.d.r g.d.ys u c.requires.known.is.below in
     let one = found.2 in
     record {
-      rest = subst (λ (rest : Rest). IsRest g.d.measures (rows_after g.d) u (Some rest)) (sym c.copy.ensures)
-          (all (omega arith));
+      rest = rw c.copy.ensures (all (omega arith));
     }

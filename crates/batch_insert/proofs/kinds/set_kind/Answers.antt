@@ -24,19 +24,19 @@ set_forced_child-requires g c =
     }
 
 pub mark-requires : goal.mark-requires
-mark-requires g c = number_rewrite c.args.row.now.tuple.now c.args.arena.now (numbered c.args.numbers.now) _ _
+mark-requires g c = number_rewrite c.args.row.now.tuple.now c.args.arena.now _ _ _
     c.requires.repair c.number_of-node.ensures
 
 pub returns-in-Some-clause-done : goal.returns-in-Some-clause-done
 returns-in-Some-clause-done g c
     = let h = c.set_forced_child.ensures.here in
-    one_forced c.args.row.now.tuple.now (numbered c.args.numbers.now) c.args.arena.now.now
+    one_forced c.args.row.now.tuple.now _ c.args.arena.now.now
     c.set_forced_child.new.arena.now c.args.row.now.amounts.now c.args.end c.in-Some.forcing _ h.0 h.1 c.in-Some.is
     c.number_of-node.ensures h.2 h.3 h.4 c.set_forced_child.ensures.others
 
 pub returns-in-None-clause-done : goal.returns-in-None-clause-done
 returns-in-None-clause-done g c
-    = one_class c.args.row.now.tuple.now (numbered c.args.numbers.now) c.args.arena.now.now c.mark.new.arena.now
+    = one_class c.args.row.now.tuple.now _ c.args.arena.now.now c.mark.new.arena.now
     c.args.row.now.amounts.now c.args.end _ _ c.in-None.is c.number_of-node.ensures c.with_row-agg.ensures c.mark.ensures.here
     c.mark.ensures.others
 

@@ -1,4 +1,4 @@
-use Rattle.std.proofs.Common.{◌<◌, length, subst}
+use Rattle.std.proofs.Common.{length}
 use Rattle.batch_insert.specs.Numbered.{numbered}
 use Rattle.batch_insert.proofs.Each.{one_set}
 use Rattle.batch_insert.specs.Planned.{CanSet}
@@ -9,20 +9,17 @@ use Rattle.batch_insert.proofs.labels.set_tuple_label.Goals as goal
 pub put_label-requires : goal.put_label-requires
 put_label-requires g c =
     let can = one_of (λ x. CanSet (length c.args.tuple.now) (numbered c.args.numbers.now) x) _ c.requires.within in record {
-      node = number_rewrite c.args.tuple.now c.args.arena.now (numbered c.args.numbers.now) _ _ c.requires.repair
-          c.number_of-node.ensures;
+      node = number_rewrite c.args.tuple.now c.args.arena.now _ _ _ c.requires.repair c.number_of-node.ensures;
       label = record {
-        target = number_there c.args.tuple.now c.args.arena.now (numbered c.args.numbers.now) _ _ c.requires.repair.numbers
-            c.number_of-target.ensures;
-        dim = subst (λ n. c.args.own.dim < n) c.requires.repair.width can.dim;
+        target = number_there c.args.tuple.now c.args.arena.now _ _ _ c.requires.repair.numbers c.number_of-target.ensures;
+        dim = rw (← c.requires.repair.width) can.dim;
         code = c.tuple_code-code.ensures.small;
       };
     }
 
 pub returns-clause-done : goal.returns-clause-done
 returns-clause-done g c
-    = ok_then c.put_label.result
-    (λ h. one_set c.args.tuple.now (numbered c.args.numbers.now) c.args.arena.now.now c.put_label.new.arena.now
+    = ok_then c.put_label.result (λ h. one_set c.args.tuple.now _ c.args.arena.now.now c.put_label.new.arena.now
     c.args.own _ _ _ c.number_of-node.ensures c.number_of-target.ensures c.tuple_code-code.ensures.value h
     c.put_label.ensures.others) c.put_label.ensures.here
 

@@ -1,7 +1,6 @@
 use Rattle.batch_insert.proofs.Costed.{taken_le, taken_length}
-use Rattle.std.proofs.Common.{length, subst, arith}
+use Rattle.std.proofs.Common.{length, arith}
 use Rattle.std.proofs.lemmas.List.{take_all}
-use Rattle.batch_insert.specs.Stages.{HaveSet}
 use Rattle.batch_insert.proofs.Doing.{set_none, set_next}
 use Rattle.batch_insert.specs.Numbered.{numbered}
 use Rattle.batch_insert.proofs.Keeping.{keeps_same, keeps_then, repair_then}
@@ -15,7 +14,7 @@ pub set_tuple_label-requires : goal.set_tuple_label-requires
 set_tuple_label-requires g c =
     let can = λ (x : TupleLabel). CanSet (length c.args.tuple.now) (numbered c.args.numbers.now) x in
     record {
-      repair = repair_then c.args.tuple.now c.args.arena.now c.tuple_labels.arena (numbered c.args.numbers.now)
+      repair = repair_then c.args.tuple.now c.args.arena.now c.tuple_labels.arena _
           c.tuple_labels.invariant.keeps c.requires.repair;
       within = all_one can _
           (All-get_or can c.args.tuple_labels.now c.tuple_labels.k _ c.tuple_labels-test.true c.requires.within);
@@ -41,7 +40,7 @@ tuple_labels-preserved g c = record {
   );
   keeps = keeps_then c.args.tuple.now c.args.arena.now c.tuple_labels.arena c.set_tuple_label.new.arena
       c.tuple_labels.invariant.keeps c.in-Ok.ensures.keeps;
-  done = set_next c.args.tuple.now (numbered c.args.numbers.now) c.args.arena.now.now c.tuple_labels.arena.now
+  done = set_next c.args.tuple.now _ c.args.arena.now.now c.tuple_labels.arena.now
       c.set_tuple_label.new.arena.now c.args.tuple_labels.now c.tuple_labels.k _ c.tuple_labels-test.true
       c.tuple_labels.invariant.done c.in-Ok.ensures.done;
 }
@@ -50,16 +49,13 @@ pub tuple_labels-init : goal.tuple_labels-init
 tuple_labels-init g c = record {
   keeps = keeps_same c.args.tuple.now c.args.arena.now c.requires.repair.opened;
   done
-      = set_none c.args.tuple.now (numbered c.args.numbers.now) c.args.arena.now.now;
+      = set_none c.args.tuple.now _ c.args.arena.now.now;
   steps = omega arith;
 }
 
 pub returns-clause-done : goal.returns-clause-done
 returns-clause-done g c
-    = subst (λ xs. HaveSet c.args.tuple.now (numbered c.args.numbers.now) xs c.args.arena.now.now
-    c.tuple_labels.arena.now)
-    (take_all c.tuple_labels.k c.args.tuple_labels.now (omega (arith, c.tuple_labels-test.false)))
-    c.tuple_labels.invariant.done
+    = rw (← (take_all c.tuple_labels.k c.args.tuple_labels.now (omega (arith, c.tuple_labels-test.false)))) c.tuple_labels.invariant.done
 
 pub returns-clause-steps : goal.returns-clause-steps
 returns-clause-steps g c

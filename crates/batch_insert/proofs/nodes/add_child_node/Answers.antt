@@ -8,10 +8,9 @@ use Rattle.batch_insert.proofs.nodes.add_child_node.Goals as goal
 
 pub returns-in-Ok-noted-clause-repair : goal.returns-in-Ok-noted-clause-repair
 returns-in-Ok-noted-clause-repair g c =
-    repair_more c.args.tuple.now c.args.arena.now c.add_new.new.arena (numbered c.args.numbers.now)
-    (numbered c.noted.new.numbers) c.args.spot.mask c.in-Ok.node.0 c.in-Ok.ensures.keeps
-    c.requires.repair
-    (new_number c.args.tuple.now c.args.arena.now c.args.spot (numbered c.args.numbers.now) c.number_of-parent.result.0
+    repair_more c.args.tuple.now c.args.arena.now c.add_new.new.arena _
+    _ c.args.spot.mask c.in-Ok.node.0 c.in-Ok.ensures.keeps c.requires.repair
+    (new_number c.args.tuple.now c.args.arena.now c.args.spot _ c.number_of-parent.result.0
     c.requires.repair.numbers c.number_of-parent.ensures c.requires.spot c.add_new.new.arena c.in-Ok.node.0
     c.tuple_code-code.result c.tuple_code-code.ensures.value c.in-Ok.ensures.here
     c.in-Ok.ensures.touched)
@@ -54,10 +53,10 @@ returns-in-Ok-noted-clause-steps g c = omega (arith, c.in-Ok.ensures.steps)
 pub add_new-requires : goal.add_new-requires
 add_new-requires g c = record {
   opened = c.requires.repair.opened;
-  place = place_is c.args.tuple.now c.args.arena.now c.args.spot (numbered c.args.numbers.now)
+  place = place_is c.args.tuple.now c.args.arena.now c.args.spot _
       c.number_of-parent.result.0 c.requires.repair.numbers c.number_of-parent.ensures c.requires.spot
       c.tuple_code-code.result c.tuple_code-code.ensures.small c.requires.repair.width;
-  below = new_below c.args.tuple.now c.args.arena.now c.args.spot (numbered c.args.numbers.now)
+  below = new_below c.args.tuple.now c.args.arena.now c.args.spot _
       c.number_of-parent.result.0 c.requires.repair.numbers c.number_of-parent.ensures c.requires.spot
       c.tuple_code-code.result c.tuple_code-code.ensures.value;
 }

@@ -1,4 +1,3 @@
-use Rattle.batch_insert.specs.Numbered.{numbered}
 use Rattle.std.proofs.Common.{◌∙◌, sym}
 use Rattle.batch_insert.proofs.Coming.{noted_here, noted_more}
 use Rattle.batch_insert.proofs.Keeping.{keeps_same}
@@ -25,26 +24,22 @@ returns-then-has-clause-begun g c = λ a k b is. b
 
 pub returns-in-Some-clause-known : goal.returns-in-Some-clause-known
 returns-in-Some-clause-known g c
-    = ok_then c.add_old.result
-    (λ h. noted_here (numbered c.args.numbers.now) (numbered c.add_old.new.numbers) c.args.spot.mask
+    = ok_then c.add_old.result (λ h. noted_here _ _ c.args.spot.mask
     (none_found _ (sym c.has.ensures ∙ c.if-has.false)) h) c.add_old.ensures.noted
 
 pub returns-in-Some-clause-grows : goal.returns-in-Some-clause-grows
 returns-in-Some-clause-grows g c
-    = ok_then c.add_old.result
-    (λ h. noted_more (numbered c.args.numbers.now) (numbered c.add_old.new.numbers) c.args.spot.mask
+    = ok_then c.add_old.result (λ h. noted_more _ _ c.args.spot.mask
     (none_found _ (sym c.has.ensures ∙ c.if-has.false)) h) c.add_old.ensures.noted
 
 pub returns-in-None-clause-known : goal.returns-in-None-clause-known
 returns-in-None-clause-known g c
-    = ok_then c.add_child_node.result
-    (λ h. noted_here (numbered c.args.numbers.now) (numbered c.add_child_node.new.numbers) c.args.spot.mask
+    = ok_then c.add_child_node.result (λ h. noted_here _ _ c.args.spot.mask
     (none_found _ (sym c.has.ensures ∙ c.if-has.false)) h) c.add_child_node.ensures.noted
 
 pub returns-in-None-clause-grows : goal.returns-in-None-clause-grows
 returns-in-None-clause-grows g c
-    = ok_then c.add_child_node.result
-    (λ h. noted_more (numbered c.args.numbers.now) (numbered c.add_child_node.new.numbers) c.args.spot.mask
+    = ok_then c.add_child_node.result (λ h. noted_more _ _ c.args.spot.mask
     (none_found _ (sym c.has.ensures ∙ c.if-has.false)) h) c.add_child_node.ensures.noted
 
 pub returns-then-has-clause-known : goal.returns-then-has-clause-known
